@@ -1,0 +1,4 @@
+pub mod Bytes
+pub mod Texts
+pub mod Numbers
+pub mod Dates

@@ -1,0 +1,141 @@
+-- Document 01, "How columns are read" and "Values and the one spelling": numbers.
+use Prim.Native.Nat.{ℕ, zero, suc, _+_, _-_, _*_, _/_, _%_, _^_}
+use mathlib.Core.Bool.{Bool, true, false, cond, not, _&&_, _||_}
+use mathlib.Core.List.{List, [], _∷_, _++_}
+use lib.ListN.{length, drop}
+use lib.Dec.{ltb}
+use lib.IntN.{ℤ, pos, negsuc, negℤ, natAbs}
+use Rattle.columns.specs.Bytes.{is, isDigit}
+use Rattle.columns.specs.Texts.{head, tail, ended, skip, blank}
+use Rattle.columns.specs.declared.numbers.Whole.{Whole}
+use Rattle.columns.specs.declared.numbers.Whole.the-variants as whole
+use Rattle.columns.specs.declared.numbers.Signed.{Signed}
+use Rattle.columns.specs.declared.numbers.Signed.the-variants as signed
+
+-- The digits at the front of a text, k at most.
+unfoldable pub leading : ℕ → List ℕ → List ℕ
+leading zero t = []
+leading (suc k) t = cond (isDigit (head t)) (head t ∷ leading k (tail t)) []
+
+-- The text after those.
+abbrev pub after : ℕ → List ℕ → List ℕ
+after k t = drop (length (leading k t)) t
+
+-- The number that digits say, read onto v.
+unfoldable pub numberFrom : ℕ → List ℕ → ℕ
+numberFrom v [] = v
+numberFrom v (c ∷ t) = numberFrom (v * 10 + (c - 48)) t
+
+abbrev pub number : List ℕ → ℕ
+number t = numberFrom 0 t
+
+-- No column of the paper has as many digits as eighteen; a number of more is refused.
+abbrev pub mostDigits : ℕ
+mostDigits = 18
+
+-- At least one digit, and digits to the end.
+abbrev pub onlyDigits : List ℕ → Bool
+onlyDigits t = isDigit (head t) && ended (after mostDigits t)
+
+-- Whole number: spaces, then digits to the last column, at least one digit.
+unfoldable pub wholeOf : List ℕ → Whole
+wholeOf p =
+    let t = skip p in
+    cond (ended t) whole.Blank
+    (cond (onlyDigits t) (whole.Filled (number (leading mostDigits t))) whole.Bad)
+
+-- A whole number is there.
+abbrev pub wholeFilled : Whole → Bool
+wholeFilled whole.Bad = false
+wholeFilled whole.Blank = false
+wholeFilled (whole.Filled v) = true
+
+-- The whole number that is there, 0 where there is none.
+abbrev pub amount : Whole → ℕ
+amount whole.Bad = 0
+amount whole.Blank = 0
+amount (whole.Filled v) = v
+
+-- v, or -v.
+abbrev pub withSign : Bool → ℕ → ℤ
+withSign minus v = cond minus (negℤ (pos v)) (pos v)
+
+-- The digits of a whole number after its sign.
+unfoldable pub signedDigits : Bool → List ℕ → Signed
+signedDigits minus t = cond (onlyDigits t) (signed.Filled (withSign minus (number (leading mostDigits t)))) signed.Bad
+
+-- Whole number with a sign: spaces, at most one + or - directly before the first digit, digits to the last column.
+unfoldable pub signedOf : List ℕ → Signed
+signedOf p =
+    let t = skip p in
+    cond (ended t) signed.Blank
+    (cond (is "-" (head t)) (signedDigits true (tail t))
+    (cond (is "+" (head t)) (signedDigits false (tail t))
+    (signedDigits false t)))
+
+-- The digits of a decimal after its sign: 0 to a digits, a point, 1 to b digits, spaces. It counts units of the b-th place after the point.
+unfoldable pub magnitudeOf : ℕ → ℕ → Bool → List ℕ → Signed
+magnitudeOf a b minus t =
+    let before = leading a t in
+    let point = after a t in
+    let behind = leading b (tail point) in
+    let rest = after b (tail point) in
+    cond (is "." (head point) && not (ended behind) && blank rest)
+    (signed.Filled (withSign minus (number (before ++ behind) * 10 ^ (b - length behind))))
+    signed.Bad
+
+-- Decimal: spaces, where the field is signed at most one + or - directly before the first digit or point, and the magnitude.
+unfoldable pub decimalOf : ℕ → ℕ → Bool → List ℕ → Signed
+decimalOf a b sign p =
+    let t = skip p in
+    cond (ended t) signed.Blank
+    (cond (sign && is "-" (head t)) (magnitudeOf a b true (tail t))
+    (cond (sign && is "+" (head t)) (magnitudeOf a b false (tail t))
+    (magnitudeOf a b false t)))
+
+-- Blank, or a number that passes.
+abbrev pub passes : (ℤ → Bool) → Signed → Bool
+passes test signed.Bad = false
+passes test signed.Blank = true
+passes test (signed.Filled z) = test z
+
+-- The one spelling: all digit places filled with digits. The last k decimal digits of v stand in front of t.
+unfoldable pub spellDigits : ℕ → ℕ → List ℕ → List ℕ
+spellDigits zero v t = t
+spellDigits (suc k) v t = spellDigits k (v / 10) ((48 + v % 10) ∷ t)
+
+-- A whole number in k columns.
+abbrev pub spellWhole : ℕ → ℕ → List ℕ
+spellWhole k v = spellDigits k v []
+
+-- The number is below zero.
+abbrev pub isNegative : ℤ → Bool
+isNegative (pos n) = false
+isNegative (negsuc n) = true
+
+-- v units of the b-th place: a digits, a point, b digits.
+unfoldable pub spellMagnitude : ℕ → ℕ → ℕ → List ℕ
+spellMagnitude a b v = spellDigits a (v / 10 ^ b) (46 ∷ spellDigits b v [])
+
+-- How many columns a decimal has.
+abbrev pub decimalWidth : ℕ → ℕ → Bool → ℕ
+decimalWidth a b sign = cond sign 1 0 + a + 1 + b
+
+-- A decimal: where the field is signed, minus in the sign column, a space there otherwise.
+unfoldable pub spellDecimal : ℕ → ℕ → Bool → ℤ → List ℕ
+spellDecimal a b sign z =
+    cond sign
+    (cond (isNegative z) 45 32 ∷ spellMagnitude a b (natAbs z))
+    (spellMagnitude a b (natAbs z))
+
+-- A whole number with a sign in k + 1 columns: below zero minus and k digits, else k + 1 digits.
+unfoldable pub spellSigned : ℕ → ℤ → List ℕ
+spellSigned k z = cond (isNegative z) (45 ∷ spellDigits k (natAbs z) []) (spellDigits (suc k) (natAbs z) [])
+
+-- A whole number has its digits' places in k columns.
+abbrev pub wholeFits : ℕ → ℕ → Bool
+wholeFits k v = ltb v (10 ^ k)
+
+-- A decimal's digits and its sign have their places.
+abbrev pub decimalFits : ℕ → ℕ → Bool → ℤ → Bool
+decimalFits a b sign z = ltb (natAbs z) (10 ^ (a + b)) && (sign || not (isNegative z))

@@ -1,0 +1,3 @@
+// One column at a time: byte sets, blank, whole numbers, decimals, text and dates.
+pub mod dates;
+pub mod numbers;

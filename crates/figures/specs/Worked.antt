@@ -1,0 +1,211 @@
+-- Document 01, "Worked figures": the sheets of station S, its code and its one spelling, and the header's traps, computed from the definitions.
+use Prim.Native.Nat.{ℕ}
+use Prim.Native.String.{String}
+use mathlib.Core.Path.{_≡_, refl}
+use mathlib.Core.List.{List, [], _∷_, _++_}
+use Rattle.columns.specs.Bytes.{among, isHex, isNarrow, isText, isName, isMail}
+use Rattle.columns.specs.Texts.{skip, trimmed, every, howMany, each, byteGood, same, oneOf, textGood, bytes}
+use Rattle.columns.specs.Numbers.{leading, numberFrom, wholeOf, signedDigits, signedOf, magnitudeOf, decimalOf, spellDigits, spellMagnitude, spellDecimal, spellSigned}
+use Rattle.columns.specs.Dates.{dateRule, dateIn, dateOf, dayGood, dayOf, dateGood, dateFits, dayFits, spellDate, spellDay}
+use Rattle.fields.specs.Tenths.{tenthsGood, tenthsOf, tenthsFit, spellTenths}
+use Rattle.fields.specs.Frequencies.{amountGood, unitGood, unitOf, frequencyOf, frequencyFits, unitLetter, spellAmount, spellUnit}
+use Rattle.fields.specs.Distances.{radiusOf, groundOf, heightGood, heightOf, radiusFits, groundFits, heightFits, spellRadius, spellGround, spellHeight}
+use Rattle.fields.specs.Positions.{arcSeconds, arcGood, arcOf, positionGood, positionOf, positionFits, spellArc, spellPosition}
+use Rattle.fields.specs.Emission.{bandwidthGood, detailGood, emissionGood}
+use Rattle.fields.specs.Remarks.{cellGood, installationGood, remarksGood}
+use Rattle.fields.specs.Codes.{isCategory, classGood, serviceGood, usersGood, isCarrier, nameGood, countryGood, isBasis, polarisationGood, antennaGood, isStatus, referenceGood}
+use Rattle.filing.specs.Rules.{firstBroken}
+use Rattle.station.specs.Places.{fieldsOf}
+use Rattle.station.specs.Rules.{fieldRules, channelRules, siteRules, emissionRules, antennaRules, filingRules, typedRules}
+use Rattle.station.specs.Between.{mobile, roundAntenna, betweenRules}
+use Rattle.station.specs.Values.{stationOf}
+use Rattle.station.specs.Spelling.{channelPieces, sitePieces, emissionPieces, antennaPieces, filingPieces, stationPieces, spellStation}
+use Rattle.station.specs.Codes.{valueOf, stationCode, typedCode}
+use Rattle.header.specs.Places.{headerFields}
+use Rattle.header.specs.Values.{serialGood, serialOf, headerOf}
+use Rattle.header.specs.Rules.{headerRules}
+use Rattle.header.specs.Codes.{headerValue, headerCode, filedHeaderCode}
+use Rattle.sheet.specs.Files.{stations, recordAt, withRecord, referenceAt, codeAt, tooLong, notRecords, fieldAt, fieldCount}
+use Rattle.sheet.specs.Sheets.{twinAt, rowOf, rowIn, bad, trailer, withTrailer, judgedSheet, sheetOf, headIn, trailerFits}
+use Rattle.sheet.specs.Replacing.{touched, mendedRow, rowsWritten}
+use Rattle.sheet.specs.Replacing as replacing
+use Rattle.sheet.specs.Calls.{fileOutcome, replaceOutcome, replacedSheet, replacedRows, showOutcome, shownField}
+use Rattle.filing.specs.Outcomes.{refusal, ifDone}
+use Rattle.figures.specs.Figures.{Figure, figure, minus, Holds, AllHold}
+use lib.IntN.{pos}
+use Rattle.figures.specs.Samples as samples
+use Rattle.figures.specs.Samples.{recordOf, stationS, sWith, headerWith}
+
+abbrev pub s : List ℕ
+s = recordOf stationS
+
+-- A valid header, and station S twice.
+abbrev pub two : List ℕ
+two = recordOf (samples.headerOf "     2") ++ (s ++ s)
+
+-- Its sheet: the second station is the first one's twin.
+abbrev pub twoSheet : List ℕ
+twoSheet = 0x00 ∷ 0x00 ∷ 0x00 ∷ 0x01 ∷ 0x00 ∷ 0x0c ∷ 0x02 ∷ 0x00 ∷ 0x02 ∷ 0x01 ∷ 0x32 ∷ 0x41 ∷ []
+
+-- The sheet after number 1 got another reference.
+abbrev pub mendedSheet : List ℕ
+mendedSheet = 0x00 ∷ 0x00 ∷ 0x00 ∷ 0x00 ∷ 0x00 ∷ 0x0c ∷ 0x02 ∷ 0x00 ∷ 0x00 ∷ 0x00 ∷ 0x32 ∷ 0x41 ∷ []
+
+-- The sheet of a header alone.
+abbrev pub aloneSheet : List ℕ
+aloneSheet = 0x00 ∷ 0x08 ∷ 0x02 ∷ 0x00 ∷ 0x00 ∷ 0x00 ∷ 0x32 ∷ 0x41 ∷ []
+
+-- Station S in the one spelling.
+abbrev pub spelledS : List String
+spelledS =
+    "00938.20000" ∷ "M" ∷ "2" ∷ "FB" ∷ "CP" ∷ "L " ∷ "1" ∷
+    "01032021" ∷ "1010_MUSTER         " ∷ "AUT" ∷ "016E220548N1200" ∷ "00000" ∷ "0180" ∷
+    "5M00G7W  " ∷ " 030.0" ∷ "E" ∷ "120.0" ∷ "-02.0" ∷
+    "V " ∷ "17.0" ∷ "0030" ∷ "000ND00" ∷ "000ND00" ∷
+    "00893.20000" ∷ "M" ∷ "                                                  " ∷ "B" ∷ "        " ∷ "        " ∷ "AUT2311AB01A001" ∷
+    []
+
+-- The traps of "Easy to get wrong" and of the rules' own words.
+abbrev pub traps : List Figure
+traps =
+    figure 15 "      " 0 [] ∷  -- a blank power is not 0 dBW
+    figure 11 "016W220548S1200" 0 (minus 58925 ∷ minus 173520 ∷ []) ∷  -- west and south are negative
+    figure 11 "000W000000S0000" 0 (pos 0 ∷ pos 0 ∷ []) ∷  -- and zero has no sign
+    figure 11 "016E60 548N12 0" 11 [] ∷  -- sixty minutes
+    figure 9 "1010_[              " 9 [] ∷  -- "A..z" is not the ASCII range
+    figure 9 "1010_^              " 9 [] ∷
+    figure 18 "-90.1" 18 [] ∷
+    figure 18 "090.0" 18 [] ∷  -- three digits before the point
+    figure 13 "  -5" 0 (minus 5 ∷ []) ∷
+    figure 13 "- 5 " 13 [] ∷
+    figure 1 "  938.     " 1 [] ∷  -- no digit after the point
+    figure 1 "    0.0    " 1 [] ∷  -- not above zero
+    figure 2 " " 2 [] ∷  -- a frequency without its unit
+    figure 8 "01011900" 8 [] ∷
+    figure 8 "01011901" 0 [] ∷
+    figure 10 "A T" 10 [] ∷
+    figure 6 "J " 6 [] ∷
+    figure 14 "0M00G7W  " 14 [] ∷  -- a bandwidth that begins with 0
+    figure 14 "5M00G7W N" 14 [] ∷  -- the ninth place without the eighth
+    figure 4 "FL" 39 [] ∷  -- a repeater whose name does not end in _R
+    figure 4 "ML" 34 [] ∷  -- a mobile station with an azimuth
+    figure 26 "4  1E1850B 20Stadtplatz                           " 26 [] ∷  -- the zero of the source's example is meant to be the letter O
+    figure 26 "4  1E1850B 2OStadtplatz                           " 0 [] ∷
+    []
+
+-- What the definitions make of these.
+pub record Worked : Type 0 where
+  pub traps-hold : AllHold traps
+  -- Station S breaks no rule, read or typed, and has one spelling.
+  pub s-code : stationCode s ≡ 0
+  pub s-typed : typedCode (valueOf s) ≡ 0
+  pub s-spelling : spellStation (valueOf s) ≡ recordOf spelledS
+  -- Two of them are twins. Ending number 1's 13X in 002 writes 2 rows, and no row is bad then.
+  pub two-judged : sheetOf two ≡ twoSheet
+  pub two-mended : replacedSheet two twoSheet 1 (sWith 30 "AUT2311AB01A002") ≡ mendedSheet
+  pub two-rows : replacedRows two twoSheet 1 (sWith 30 "AUT2311AB01A002") ≡ 2
+  -- A valid header alone, count 0.
+  pub header-alone : sheetOf (recordOf (samples.headerOf "     0")) ≡ aloneSheet
+  -- A count that is not n is code 15, in a sheet alone.
+  pub wrong-count : filedHeaderCode (recordOf (samples.headerOf "     3")) 2 ≡ 15
+  pub count-unasked : headerCode (recordOf (samples.headerOf "     3")) ≡ 0
+  -- A zero is no letter O, an @ stands in the e-mail alone, [ in no text, and the header's date may not be blank.
+  pub zero-for-o : headerCode (headerWith 3 "0") ≡ 3
+  pub at-in-text : headerCode (headerWith 8 "m@muster            ") ≡ 8
+  pub bracket : headerCode (headerWith 6 "[43 1 5550100       ") ≡ 6
+  pub blank-date : headerCode (headerWith 10 "        ") ≡ 10
+  -- Showing field 30 of record 2 answers its 13X; the header has no field 15.
+  pub shown : shownField two 2 30 ≡ bytes "AUT2311AB01A001"
+  pub not-shown : shownField two 0 15 ≡ []
+  pub no-field : refusal (showOutcome two 0 15) ≡ 8
+
+pub worked : Worked
+unfolding Holds among isHex isNarrow isText isName skip trimmed every howMany each byteGood same oneOf leading numberFrom wholeOf signedDigits signedOf magnitudeOf decimalOf dateRule dateIn dateOf dayGood dayOf tenthsGood tenthsOf amountGood unitGood unitOf frequencyOf radiusOf groundOf heightGood heightOf arcSeconds arcGood arcOf positionGood positionOf bandwidthGood detailGood emissionGood cellGood installationGood remarksGood isCategory classGood serviceGood usersGood isCarrier nameGood countryGood isBasis polarisationGood antennaGood isStatus referenceGood firstBroken fieldsOf fieldRules mobile roundAntenna betweenRules stationOf valueOf stationCode isMail textGood dateGood serialGood serialOf headerOf headerFields headerRules headerValue headerCode filedHeaderCode stations recordAt withRecord referenceAt codeAt tooLong notRecords fieldAt fieldCount twinAt rowOf rowIn bad trailer withTrailer judgedSheet sheetOf headIn trailerFits touched mendedRow replacing.mendedSheet rowsWritten refusal ifDone fileOutcome replaceOutcome replacedSheet replacedRows showOutcome shownField frequencyFits dayFits radiusFits groundFits heightFits positionFits tenthsFit channelRules siteRules emissionRules antennaRules filingRules typedRules typedCode spellDigits spellMagnitude spellDecimal spellSigned spellDate spellDay spellTenths unitLetter spellAmount spellUnit spellRadius spellGround spellHeight spellArc spellPosition channelPieces sitePieces emissionPieces antennaPieces filingPieces stationPieces spellStation
+worked = record {
+  traps-hold = (
+    (refl, refl),
+    (
+      (refl, refl),
+      (
+        (refl, refl),
+        (
+          (refl, refl),
+          (
+            (refl, refl),
+            (
+              (refl, refl),
+              (
+                (refl, refl),
+                (
+                  (refl, refl),
+                  (
+                    (refl, refl),
+                    (
+                      (refl, refl),
+                      (
+                        (refl, refl),
+                        (
+                          (refl, refl),
+                          (
+                            (refl, refl),
+                            (
+                              (refl, refl),
+                              (
+                                (refl, refl),
+                                (
+                                  (refl, refl),
+                                  (
+                                    (refl, refl),
+                                    (
+                                      (refl, refl),
+                                      (
+                                        (refl, refl),
+                                        (
+                                          (refl, refl),
+                                          (
+                                            (refl, refl),
+                                            (
+                                              (refl, refl),
+                                              (
+                                                (refl, refl),
+                                                tt,
+                                              ),
+                                            ),
+                                          ),
+                                        ),
+                                      ),
+                                    ),
+                                  ),
+                                ),
+                              ),
+                            ),
+                          ),
+                        ),
+                      ),
+                    ),
+                  ),
+                ),
+              ),
+            ),
+          ),
+        ),
+      ),
+    ),
+  );
+  s-code = refl;
+  s-typed = refl;
+  s-spelling = refl;
+  two-judged = refl;
+  two-mended = refl;
+  two-rows = refl;
+  header-alone = refl;
+  wrong-count = refl;
+  count-unasked = refl;
+  zero-for-o = refl;
+  at-in-text = refl;
+  bracket = refl;
+  blank-date = refl;
+  shown = refl;
+  not-shown = refl;
+  no-field = refl;
+}

@@ -1,0 +1,6 @@
+pub mod Places
+pub mod Rules
+pub mod Values
+pub mod Spelling
+pub mod Codes
+pub mod Calls

@@ -1,0 +1,28 @@
+// A header as typed values.
+use columns::dates::Day;
+
+pub mod places;
+
+// The header's own file number, field 12, which may be left out.
+pub enum Serial {
+    Blank,
+    Filled(u64),
+}
+
+// The header of a file, field by field.
+pub struct Header {
+    pub number: u64,
+    pub content: [u8; 80],
+    pub letter: u8,
+    pub origin: [u8; 3],
+    pub mail: [u8; 40],
+    pub telephone: [u8; 20],
+    pub fax: [u8; 20],
+    pub person: [u8; 20],
+    pub count: u64,
+    pub date: Day,
+    pub destination: [u8; 3],
+    pub serial: Serial,
+    pub version: [u8; 3],
+    pub reserve: [u8; 7],
+}
