@@ -4,7 +4,7 @@ use mathlib.Core.Bool.{Bool, true, false, cond, _&&_}
 use mathlib.Core.List.{List, []}
 use lib.ListN.{take, drop, replicate}
 use lib.Dec.{leb}
-use Rattle.columns.specs.Bytes.{isDigit}
+use Rattle.columns.specs.Sets.{isDigit}
 use Rattle.columns.specs.Texts.{blank, each}
 use Rattle.columns.specs.Numbers.{number, spellDigits}
 use Rattle.columns.specs.declared.dates.Date.{Date}

@@ -1,4 +1,4 @@
-pub mod Bytes
+pub mod Sets
 pub mod Texts
 pub mod Numbers
 pub mod Dates

@@ -5,7 +5,7 @@ use mathlib.Core.List.{List, [], _∷_, _++_}
 use lib.ListN.{length, drop}
 use lib.Dec.{ltb}
 use lib.IntN.{ℤ, pos, negsuc, negℤ, natAbs}
-use Rattle.columns.specs.Bytes.{is, isDigit}
+use Rattle.columns.specs.Sets.{is, among, isDigit}
 use Rattle.columns.specs.Texts.{head, tail, ended, skip, blank}
 use Rattle.columns.specs.declared.numbers.Whole.{Whole}
 use Rattle.columns.specs.declared.numbers.Whole.the-variants as whole
@@ -34,15 +34,14 @@ abbrev pub mostDigits : ℕ
 mostDigits = 18
 
 -- At least one digit, and digits to the end.
-abbrev pub onlyDigits : List ℕ → Bool
-onlyDigits t = isDigit (head t) && ended (after mostDigits t)
+unfoldable pub wholeDigits : List ℕ → Whole
+wholeDigits t =
+    let digits = leading mostDigits t in
+    cond (not (ended digits) && ended (after mostDigits t)) (whole.Filled (number digits)) whole.Bad
 
 -- Whole number: spaces, then digits to the last column, at least one digit.
 unfoldable pub wholeOf : List ℕ → Whole
-wholeOf p =
-    let t = skip p in
-    cond (ended t) whole.Blank
-    (cond (onlyDigits t) (whole.Filled (number (leading mostDigits t))) whole.Bad)
+wholeOf p = let t = skip p in cond (ended t) whole.Blank (wholeDigits t)
 
 -- A whole number is there.
 abbrev pub wholeFilled : Whole → Bool
@@ -60,38 +59,41 @@ amount (whole.Filled v) = v
 abbrev pub withSign : Bool → ℕ → ℤ
 withSign minus v = cond minus (negℤ (pos v)) (pos v)
 
--- The digits of a whole number after its sign.
-unfoldable pub signedDigits : Bool → List ℕ → Signed
-signedDigits minus t = cond (onlyDigits t) (signed.Filled (withSign minus (number (leading mostDigits t)))) signed.Bad
+-- A number whose sign is known.
+abbrev pub inSign : Bool → Whole → Signed
+inSign minus whole.Bad = signed.Bad
+inSign minus whole.Blank = signed.Bad
+inSign minus (whole.Filled v) = signed.Filled (withSign minus v)
 
--- Whole number with a sign: spaces, at most one + or - directly before the first digit, digits to the last column.
+-- Signed: one + or - may stand directly before the first digit or point, nowhere else. Unsigned fields take no sign.
+abbrev pub hasMinus : Bool → List ℕ → Bool
+hasMinus sign t = sign && is "-" (head t)
+
+unfoldable pub unsigned : Bool → List ℕ → List ℕ
+unsigned sign t = cond (sign && among "+-" (head t)) (tail t) t
+
+-- Spaces, a sign where the field may have one, and what its digits say.
+abbrev pub numberOf : Bool → (List ℕ → Whole) → List ℕ → Signed
+numberOf sign digits p = let t = skip p in cond (ended t) signed.Blank (inSign (hasMinus sign t) (digits (unsigned sign t)))
+
+-- Whole number with a sign.
 unfoldable pub signedOf : List ℕ → Signed
-signedOf p =
-    let t = skip p in
-    cond (ended t) signed.Blank
-    (cond (is "-" (head t)) (signedDigits true (tail t))
-    (cond (is "+" (head t)) (signedDigits false (tail t))
-    (signedDigits false t)))
+signedOf p = numberOf true wholeDigits p
 
--- The digits of a decimal after its sign: 0 to a digits, a point, 1 to b digits, spaces. It counts units of the b-th place after the point.
-unfoldable pub magnitudeOf : ℕ → ℕ → Bool → List ℕ → Signed
-magnitudeOf a b minus t =
+-- 0 to a digits, a point, 1 to b digits, spaces. It counts units of the b-th place after the point.
+unfoldable pub magnitudeOf : ℕ → ℕ → List ℕ → Whole
+magnitudeOf a b t =
     let before = leading a t in
     let point = after a t in
     let behind = leading b (tail point) in
     let rest = after b (tail point) in
     cond (is "." (head point) && not (ended behind) && blank rest)
-    (signed.Filled (withSign minus (number (before ++ behind) * 10 ^ (b - length behind))))
-    signed.Bad
+    (whole.Filled (number (before ++ behind) * 10 ^ (b - length behind)))
+    whole.Bad
 
--- Decimal: spaces, where the field is signed at most one + or - directly before the first digit or point, and the magnitude.
+-- Decimal with a digits before the point and b after.
 unfoldable pub decimalOf : ℕ → ℕ → Bool → List ℕ → Signed
-decimalOf a b sign p =
-    let t = skip p in
-    cond (ended t) signed.Blank
-    (cond (sign && is "-" (head t)) (magnitudeOf a b true (tail t))
-    (cond (sign && is "+" (head t)) (magnitudeOf a b false (tail t))
-    (magnitudeOf a b false t)))
+decimalOf a b sign p = numberOf sign (magnitudeOf a b) p
 
 -- Blank, or a number that passes.
 abbrev pub passes : (ℤ → Bool) → Signed → Bool

@@ -7,7 +7,7 @@ use mathlib.Core.Bool.{Bool, true, false, cond, not, _&&_, _||_}
 use mathlib.Core.List.{List, [], _∷_}
 use lib.ListN.{length, getD, drop}
 use lib.Dec.{eqb}
-use Rattle.columns.specs.Bytes.{is}
+use Rattle.columns.specs.Sets.{is}
 
 -- The bytes of a literal.
 abbrev pub bytes : String → List ℕ

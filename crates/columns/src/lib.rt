@@ -1,3 +1,5 @@
 // One column at a time: byte sets, blank, whole numbers, decimals, text and dates.
 pub mod dates;
 pub mod numbers;
+pub mod sets;
+pub mod texts;

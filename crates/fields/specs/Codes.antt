@@ -3,7 +3,7 @@ use Prim.Native.Nat.{ℕ}
 use mathlib.Core.Bool.{Bool, not, _&&_, _||_}
 use mathlib.Core.List.{List, [], _∷_, _++_}
 use lib.ListN.{replicate}
-use Rattle.columns.specs.Bytes.{is, between, among, isDigit, isUpper, isNarrow, isName}
+use Rattle.columns.specs.Sets.{is, between, among, isDigit, isUpper, isNarrow, isName}
 use Rattle.columns.specs.Texts.{blank, trimmed, every, each, exactly, oneOf, sized}
 
 -- 1Z: 1 to 8.

@@ -4,7 +4,7 @@ use mathlib.Core.Bool.{Bool, not, _&&_, _||_}
 use mathlib.Core.List.{List}
 use lib.ListN.{getD, take, drop}
 use lib.Dec.{eqb}
-use Rattle.columns.specs.Bytes.{is, isDigit, among}
+use Rattle.columns.specs.Sets.{is, isDigit, among}
 use Rattle.columns.specs.Texts.{head, blank, howMany, sized}
 
 -- Four bandwidth places hold three digits and one of H, K, M, G, the first place neither 0, K, M nor G.

@@ -6,7 +6,7 @@ use mathlib.Core.List.{List, [], _∷_}
 use lib.ListN.{replicate}
 use lib.Dec.{ltb}
 use lib.IntN.{ℤ, pos, natAbs}
-use Rattle.columns.specs.Bytes.{is, among}
+use Rattle.columns.specs.Sets.{is, among}
 use Rattle.columns.specs.Texts.{head, blank, each}
 use Rattle.columns.specs.Numbers.{passes, decimalOf, decimalFits, spellDecimal}
 use Rattle.columns.specs.declared.numbers.Signed.{Signed}

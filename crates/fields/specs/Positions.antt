@@ -7,7 +7,7 @@ use mathlib.Core.List.{List, [], _∷_, _++_}
 use lib.ListN.{getD, take, drop}
 use lib.Dec.{leb}
 use lib.IntN.{ℤ, natAbs}
-use Rattle.columns.specs.Bytes.{is, among}
+use Rattle.columns.specs.Sets.{is, among}
 use Rattle.columns.specs.Texts.{sized}
 use Rattle.columns.specs.Numbers.{wholeOf, wholeFilled, amount, withSign, isNegative, spellDigits}
 use Rattle.fields.specs.declared.positions.Position.{Position}

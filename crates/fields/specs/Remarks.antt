@@ -3,7 +3,7 @@ use Prim.Native.Nat.{ℕ}
 use mathlib.Core.Bool.{Bool, _&&_, _||_}
 use mathlib.Core.List.{List, [], _∷_}
 use lib.ListN.{getD, take, drop}
-use Rattle.columns.specs.Bytes.{between, among, isHex, isText}
+use Rattle.columns.specs.Sets.{between, among, isHex, isText}
 use Rattle.columns.specs.Texts.{head, skip, blank, every, oneOf, sized}
 
 -- Places 2-10: blank, or spaces then upper-case hex digits to place 10.

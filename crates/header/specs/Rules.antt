@@ -3,7 +3,7 @@ use Prim.Native.Nat.{ℕ}
 use mathlib.Core.Bool.{Bool}
 use mathlib.Core.List.{List, [], _∷_}
 use lib.ListN.{replicate}
-use Rattle.columns.specs.Bytes.{is, isText, isMail}
+use Rattle.columns.specs.Sets.{is, isText, isMail}
 use Rattle.columns.specs.Texts.{bytes, byteGood, same, textGood}
 use Rattle.columns.specs.Numbers.{wholeOf, wholeFilled, wholeFits}
 use Rattle.columns.specs.Dates.{dateGood, dateFits}

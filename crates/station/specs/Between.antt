@@ -3,7 +3,7 @@ use Prim.Native.Nat.{ℕ}
 use mathlib.Core.Bool.{Bool, not, _&&_}
 use mathlib.Core.List.{List, [], _∷_}
 use lib.Dec.{eqb}
-use Rattle.columns.specs.Bytes.{is}
+use Rattle.columns.specs.Sets.{is}
 use Rattle.columns.specs.Texts.{bytes, head, trimmed, same, endsIn}
 use Rattle.fields.specs.Frequencies.{hasFrequency}
 use Rattle.fields.specs.Tenths.{hasTenths}

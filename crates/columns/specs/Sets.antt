@@ -5,6 +5,8 @@ use Prim.Native.String.{String}
 use Prim.Native.String as text
 use mathlib.Core.Bool.{Bool, false, _&&_, _||_}
 use lib.Dec.{leb, eqb}
+use Rattle.columns.specs.declared.sets.Set.{Set}
+use Rattle.columns.specs.declared.sets.Set.the-variants as set
 
 -- The byte of the character x.
 abbrev pub is : Char → ℕ → Bool
@@ -47,3 +49,13 @@ isName c = isText c || is "_" c
 -- The text set, @ and underscore, of the header's e-mail.
 unfoldable pub isMail : ℕ → Bool
 isMail c = isText c || among "@_" c
+
+-- The set that a name stands for.
+abbrev pub setOf : Set → ℕ → Bool
+setOf set.Digit = isDigit
+setOf set.Upper = isUpper
+setOf set.Hex = isHex
+setOf set.Narrow = isNarrow
+setOf set.Text = isText
+setOf set.Name = isName
+setOf set.Mail = isMail

@@ -1,0 +1,114 @@
+-- What the tests on texts do at a place of a list.
+-- Assumes nothing.
+use mathlib.Core.Path.{_≡_, refl, sym, ap, _∙_}
+use mathlib.Core.Bool.{Bool, true, false, cond, not, _&&_, _||_, false≢true}
+use mathlib.Core.List.{List, [], _∷_, _++_}
+use Prim.Native.Nat.{ℕ, zero, suc, _+_, _≤_, _<_}
+use native.Mathlib.Omega.{arith}
+use native.Mathlib.Decide.{decLt, ℕ-discrete}
+use native.Mathlib.Nat.{add-zero}
+use native.Mathlib.Numerals.{add-one}
+use lib.Arith.{lt-of-le-ne}
+use lib.Dec.{leb, eqb}
+use lib.ListN.{length, getD, drop, replicate, drop-of-length-le, List·getD-eq-default}
+use lib.Seq.{drop-cons, getD-drop, drop-drop}
+use borrow.Author.Tests.{eq-eqb, ne-eqb}
+use Rattle.columns.specs.Texts.{head, tail, ended, skip, every, same}
+
+-- both tests passed
+pub and-split : (a b : Bool) → (a && b) ≡ true → (a ≡ true) × (b ≡ true)
+and-split true b e = (refl, e)
+and-split false b e = absurd (false≢true e)
+
+pub and-both : (a b : Bool) → a ≡ true → b ≡ true → (a && b) ≡ true
+and-both a b e f = rw (e, f)
+
+-- a choice has what both of its sides have
+pub cond-case : {A : Type 0} (P : A → Type 0) (b : Bool) {x y : A} → (b ≡ true → P x) → (b ≡ false → P y) → P (cond b x y)
+cond-case P true f g = f refl
+cond-case P false f g = g refl
+
+-- the first byte of a rest, and the rest after it
+pub head-at : (s : List ℕ) (i : ℕ) → head (drop i s) ≡ getD s i 0
+head-at s i = rw (getD-drop, add-zero)
+
+pub tail-at : (s : List ℕ) (i : ℕ) → tail (drop i s) ≡ drop (i + 1) s
+tail-at s i = drop-drop 1 i s
+
+-- a byte that is not 0 is not past the end
+pub byte-below : (s : List ℕ) (i x : ℕ) → getD s i 0 ≡ x → 0 < x → i < length s
+byte-below s i x e h =
+    elim (decLt i (length s)) [ yes l ↦ l | no l ↦ omega (arith, List·getD-eq-default s 0 {n = i} (omega arith)) ]
+
+-- nothing is left exactly at the end
+pub at-end : (s : List ℕ) (i : ℕ) → i ≡ length s → ended (drop i s) ≡ true
+at-end s i e = rw (drop-of-length-le s {i = i} (omega arith))
+
+pub not-at-end : (s : List ℕ) (i : ℕ) → i ≤ length s → (i ≡ length s → ⊥) → ended (drop i s) ≡ false
+not-at-end s i l n = rw (drop-cons s i 0 (lt-of-le-ne l n))
+
+pub ended-drop : (s : List ℕ) (i : ℕ) → i ≤ length s → ended (drop i s) ≡ eqb i (length s)
+ended-drop s i l =
+    elim (ℕ-discrete i (length s)) [ yes e ↦ at-end s i e ∙ sym (eq-eqb i (length s) e) | no n ↦ not-at-end s i l n ∙ sym (ne-eqb i (length s) n) ]
+
+pub ended-length : (t : List ℕ) → ended t ≡ eqb (length t) 0
+ended-length [] = refl
+ended-length (c ∷ t) = sym (ne-eqb (suc (length t)) 0 (λ e. omega arith))
+
+-- spaces
+pub skip-space : (s : List ℕ) (i : ℕ) → i < length s → getD s i 0 ≡ 32 → skip (drop i s) ≡ skip (drop (i + 1) s)
+unfolding skip
+skip-space s i h e = rw (add-one, drop-cons s i 0) (simp (eq-eqb _ _ e))
+
+pub skip-other : (s : List ℕ) (i : ℕ) → i < length s → (getD s i 0 ≡ 32 → ⊥) → skip (drop i s) ≡ drop i s
+unfolding skip
+skip-other s i h e = rw (drop-cons s i 0) (simp (ne-eqb _ _ e))
+
+pub skip-end : (s : List ℕ) (i : ℕ) → length s ≤ i → skip (drop i s) ≡ drop i s
+unfolding skip
+skip-end s i h = rw (drop-of-length-le s h)
+
+-- a test on every byte
+pub every-more : (test : ℕ → Bool) (s : List ℕ) (i : ℕ) → i < length s → test (getD s i 0) ≡ true → every test (drop i s) ≡ every test (drop (i + 1) s)
+unfolding every
+every-more test s i h e = rw (add-one, drop-cons s i 0, e)
+
+pub every-not : (test : ℕ → Bool) (s : List ℕ) (i : ℕ) → i < length s → test (getD s i 0) ≡ false → every test (drop i s) ≡ false
+unfolding every
+every-not test s i h e = rw (drop-cons s i 0, e)
+
+pub every-end : (test : ℕ → Bool) (s : List ℕ) (i : ℕ) → length s ≤ i → every test (drop i s) ≡ true
+unfolding every
+every-end test s i h = rw (drop-of-length-le s h)
+
+-- equal texts
+pub same-more : (a b : List ℕ) (i : ℕ) → i < length a → i < length b → getD a i 0 ≡ getD b i 0 → same (drop i a) (drop i b) ≡ same (drop (i + 1) a) (drop (i + 1) b)
+unfolding same
+same-more a b i h g e = rw (add-one, drop-cons a i 0, drop-cons b i 0, eq-eqb (getD b i 0) (getD a i 0) (sym e))
+
+pub same-not : (a b : List ℕ) (i : ℕ) → i < length a → i < length b → (getD a i 0 ≡ getD b i 0 → ⊥) → same (drop i a) (drop i b) ≡ false
+unfolding same
+same-not a b i h g n = rw (drop-cons a i 0, drop-cons b i 0, ne-eqb (getD b i 0) (getD a i 0) (λ e. n (sym e)))
+
+pub same-end : (a b : List ℕ) (i : ℕ) → length a ≤ i → length b ≤ i → same (drop i a) (drop i b) ≡ true
+unfolding same
+same-end a b i h g = rw (drop-of-length-le a h, drop-of-length-le b g)
+
+pub same-length : (a b : List ℕ) → same a b ≡ true → length a ≡ length b
+unfolding same
+same-length [] [] e = refl
+same-length [] (y ∷ b) e = absurd (false≢true e)
+same-length (x ∷ a) [] e = absurd (false≢true e)
+same-length (x ∷ a) (y ∷ b) e = ap suc (same-length a b (and-split (eqb y x) (same a b) e .1))
+
+-- texts of two lengths are not equal
+pub not-same : (a b : List ℕ) → (length a ≡ length b → ⊥) → same a b ≡ false
+not-same a b n = by (same a b) refl where
+  by : (r : Bool) → same a b ≡ r → r ≡ false
+  by true e = absurd (n (same-length a b e))
+  by false e = refl
+
+-- spaces in every column of a text
+pub blanked : (s : List ℕ) → replicate (length s) 32 ++ drop (length s) s ≡ replicate (length s) 32
+blanked [] = refl
+blanked (x ∷ s) = ap (λ (l : List ℕ). 32 ∷ l) (blanked s)

@@ -1,0 +1,108 @@
+// Tests on texts: blank, equal, of a set, left-justified. And what needs no reading is written: spaces, and text.
+use crate::sets::Set;
+use crate::sets::has;
+ghost use mathlib.Core.Path.{_≡_};
+ghost use mathlib.Core.Bool.{cond};
+ghost use Prim.Native.Nat.{_≤_};
+ghost use lib.ListN.{length, getD, drop, replicate};
+ghost use Rattle.columns.specs.Sets.{setOf};
+ghost use Rattle.columns.specs.Texts.{skip, blank, every, same, sized, textGood};
+
+// The byte at i, 0 past the end.
+pub fn byte(s: &[u8], i: usize) -> u8
+    ensures { λ r. ⌜ r ≡ getD (now (s .entry)) i 0 ⌝ }
+{
+    if i < s.len() { s[i] } else { 0 }
+}
+
+// How many spaces stand first.
+pub fn spaces(s: &[u8]) -> usize
+    ensures { λ r. ⌜ (r ≤ length (now (s .entry))) × (skip (now (s .entry)) ≡ drop r (now (s .entry))) ⌝ }
+{
+    let mut at = 0;
+    while at < s.len() {
+        if s[at] == b' ' {
+            at += 1;
+        } else {
+            return at;
+        }
+    }
+    at
+}
+
+// All spaces.
+pub fn is_blank(s: &[u8]) -> bool
+    ensures { λ r. ⌜ r ≡ blank (now (s .entry)) ⌝ }
+{
+    spaces(s) == s.len()
+}
+
+// Every byte is of the set.
+pub fn all_in(set: Set, s: &[u8]) -> bool
+    ensures { λ r. ⌜ r ≡ every (setOf set) (now (s .entry)) ⌝ }
+{
+    let mut i = 0;
+    while i < s.len() {
+        if !has(set, s[i]) {
+            return false;
+        }
+        i += 1;
+    }
+    true
+}
+
+// The two texts are equal.
+pub fn equal(a: &[u8], b: &[u8]) -> bool
+    ensures { λ r. ⌜ r ≡ same (now (a .entry)) (now (b .entry)) ⌝ }
+{
+    if a.len() != b.len() {
+        return false;
+    }
+    let mut i = 0;
+    while i < a.len() {
+        if a[i] != b[i] {
+            return false;
+        }
+        i += 1;
+    }
+    true
+}
+
+// Text of w bytes of a set, left-justified.
+pub fn is_left_text(s: &[u8], w: usize, set: Set) -> bool
+    ensures { λ r. ⌜ r ≡ textGood w (setOf set) (now (s .entry)) ⌝ }
+{
+    if s.len() != w {
+        return false;
+    }
+    if !all_in(set, s) {
+        return false;
+    }
+    if is_blank(s) {
+        return true;
+    }
+    byte(s, 0) != b' '
+}
+
+// Spaces in every column.
+pub fn write_blank(s: &mut [u8])
+    ensures { λ _. ⌜ now (s .exit) ≡ replicate (length (now (s .entry))) 32 ⌝ }
+{
+    let mut i = 0;
+    while i < s.len() {
+        s[i] = b' ';
+        i += 1;
+    }
+}
+
+// Text in columns of its own width; in others nothing is written.
+pub fn write_text(s: &mut [u8], t: &[u8]) -> bool
+    ensures { λ r. ⌜ r ≡ sized (length (now (t .entry))) (now (s .entry)) ⌝ }
+    ensures { λ _. ⌜ now (s .exit) ≡ cond (sized (length (now (t .entry))) (now (s .entry))) (now (t .entry)) (now (s .entry)) ⌝ }
+{
+    if s.len() != t.len() {
+        return false;
+    }
+    bytes::copy(t, s);
+    true
+}
