@@ -1,2 +1,5 @@
 pub mod SetLaws
 pub mod TextLaws
+pub mod NumberLaws
+pub mod DecimalLaws
+pub mod Signs

@@ -3,15 +3,15 @@
 use mathlib.Core.Path.{_≡_, refl, sym, ap, _∙_}
 use mathlib.Core.Bool.{Bool, true, false, cond, not, _&&_, _||_, false≢true}
 use mathlib.Core.List.{List, [], _∷_, _++_}
-use Prim.Native.Nat.{ℕ, zero, suc, _+_, _≤_, _<_}
+use Prim.Native.Nat.{ℕ, zero, suc, _+_, _-_, _≤_, _<_}
 use native.Mathlib.Omega.{arith}
 use native.Mathlib.Decide.{decLt, ℕ-discrete}
 use native.Mathlib.Nat.{add-zero}
 use native.Mathlib.Numerals.{add-one}
 use lib.Arith.{lt-of-le-ne}
 use lib.Dec.{leb, eqb}
-use lib.ListN.{length, getD, drop, replicate, drop-of-length-le, List·getD-eq-default}
-use lib.Seq.{drop-cons, getD-drop, drop-drop}
+use lib.ListN.{length, getD, take, drop, replicate, length-drop, drop-of-length-le, List·getD-eq-default}
+use lib.Seq.{drop-cons, getD-drop, drop-drop, take-all}
 use borrow.Author.Tests.{eq-eqb, ne-eqb}
 use Rattle.columns.specs.Texts.{head, tail, ended, skip, every, same}
 
@@ -34,6 +34,10 @@ head-at s i = rw (getD-drop, add-zero)
 
 pub tail-at : (s : List ℕ) (i : ℕ) → tail (drop i s) ≡ drop (i + 1) s
 tail-at s i = drop-drop 1 i s
+
+-- what a part from i on holds
+pub from-on : (s : List ℕ) (i : ℕ) → take (length s - i) (drop i s) ≡ drop i s
+from-on s i = take-all (length s - i) (drop i s) (simp length-drop (omega arith))
 
 -- a byte that is not 0 is not past the end
 pub byte-below : (s : List ℕ) (i x : ℕ) → getD s i 0 ≡ x → 0 < x → i < length s

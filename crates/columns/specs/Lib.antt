@@ -1,4 +1,5 @@
 pub mod Sets
 pub mod Texts
 pub mod Numbers
+pub mod Decimals
 pub mod Dates

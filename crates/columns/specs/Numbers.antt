@@ -80,21 +80,6 @@ numberOf sign digits p = let t = skip p in cond (ended t) signed.Blank (inSign (
 unfoldable pub signedOf : List ℕ → Signed
 signedOf p = numberOf true wholeDigits p
 
--- 0 to a digits, a point, 1 to b digits, spaces. It counts units of the b-th place after the point.
-unfoldable pub magnitudeOf : ℕ → ℕ → List ℕ → Whole
-magnitudeOf a b t =
-    let before = leading a t in
-    let point = after a t in
-    let behind = leading b (tail point) in
-    let rest = after b (tail point) in
-    cond (is "." (head point) && not (ended behind) && blank rest)
-    (whole.Filled (number (before ++ behind) * 10 ^ (b - length behind)))
-    whole.Bad
-
--- Decimal with a digits before the point and b after.
-unfoldable pub decimalOf : ℕ → ℕ → Bool → List ℕ → Signed
-decimalOf a b sign p = numberOf sign (magnitudeOf a b) p
-
 -- Blank, or a number that passes.
 abbrev pub passes : (ℤ → Bool) → Signed → Bool
 passes test signed.Bad = false
@@ -115,21 +100,6 @@ abbrev pub isNegative : ℤ → Bool
 isNegative (pos n) = false
 isNegative (negsuc n) = true
 
--- v units of the b-th place: a digits, a point, b digits.
-unfoldable pub spellMagnitude : ℕ → ℕ → ℕ → List ℕ
-spellMagnitude a b v = spellDigits a (v / 10 ^ b) (46 ∷ spellDigits b v [])
-
--- How many columns a decimal has.
-abbrev pub decimalWidth : ℕ → ℕ → Bool → ℕ
-decimalWidth a b sign = cond sign 1 0 + a + 1 + b
-
--- A decimal: where the field is signed, minus in the sign column, a space there otherwise.
-unfoldable pub spellDecimal : ℕ → ℕ → Bool → ℤ → List ℕ
-spellDecimal a b sign z =
-    cond sign
-    (cond (isNegative z) 45 32 ∷ spellMagnitude a b (natAbs z))
-    (spellMagnitude a b (natAbs z))
-
 -- A whole number with a sign in k + 1 columns: below zero minus and k digits, else k + 1 digits.
 unfoldable pub spellSigned : ℕ → ℤ → List ℕ
 spellSigned k z = cond (isNegative z) (45 ∷ spellDigits k (natAbs z) []) (spellDigits (suc k) (natAbs z) [])
@@ -137,7 +107,3 @@ spellSigned k z = cond (isNegative z) (45 ∷ spellDigits k (natAbs z) []) (spel
 -- A whole number has its digits' places in k columns.
 abbrev pub wholeFits : ℕ → ℕ → Bool
 wholeFits k v = ltb v (10 ^ k)
-
--- A decimal's digits and its sign have their places.
-abbrev pub decimalFits : ℕ → ℕ → Bool → ℤ → Bool
-decimalFits a b sign z = ltb (natAbs z) (10 ^ (a + b)) && (sign || not (isNegative z))

@@ -1,5 +1,6 @@
 // One column at a time: byte sets, blank, whole numbers, decimals, text and dates.
 pub mod dates;
+pub mod decimals;
 pub mod numbers;
 pub mod sets;
 pub mod texts;

@@ -8,7 +8,8 @@ use lib.Dec.{ltb}
 use lib.IntN.{ℤ, pos, natAbs}
 use Rattle.columns.specs.Sets.{is, among}
 use Rattle.columns.specs.Texts.{head, blank, each}
-use Rattle.columns.specs.Numbers.{passes, decimalOf, decimalFits, spellDecimal}
+use Rattle.columns.specs.Numbers.{passes}
+use Rattle.columns.specs.Decimals.{decimalOf, decimalFits, spellDecimal}
 use Rattle.columns.specs.declared.numbers.Signed.{Signed}
 use Rattle.columns.specs.declared.numbers.Signed.the-variants as signed
 use Rattle.fields.specs.declared.frequencies.Hertz.{Hertz}

@@ -5,7 +5,8 @@ use mathlib.Core.List.{List}
 use lib.ListN.{replicate}
 use lib.Dec.{leb}
 use lib.IntN.{ℤ, natAbs}
-use Rattle.columns.specs.Numbers.{passes, decimalOf, decimalFits, decimalWidth, spellDecimal}
+use Rattle.columns.specs.Numbers.{passes}
+use Rattle.columns.specs.Decimals.{decimalOf, decimalFits, decimalWidth, spellDecimal}
 use Rattle.columns.specs.declared.numbers.Signed.{Signed}
 use Rattle.columns.specs.declared.numbers.Signed.the-variants as signed
 use Rattle.fields.specs.declared.tenths.Tenths.{Tenths}

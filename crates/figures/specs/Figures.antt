@@ -14,7 +14,8 @@ use Rattle.fields.specs.declared.distances.Height.{Height}
 use Rattle.fields.specs.declared.distances.Height.the-variants as height
 use Rattle.columns.specs.Sets.{among, isHex, isNarrow, isText, isName}
 use Rattle.columns.specs.Texts.{skip, trimmed, every, howMany, each, byteGood, same, oneOf}
-use Rattle.columns.specs.Numbers.{leading, numberFrom, wholeDigits, wholeOf, unsigned, signedOf, magnitudeOf, decimalOf}
+use Rattle.columns.specs.Numbers.{leading, numberFrom, wholeDigits, wholeOf, unsigned, signedOf}
+use Rattle.columns.specs.Decimals.{fractionOf, magnitudeOf, decimalOf}
 use Rattle.columns.specs.Dates.{dateRule, dateIn, dateOf, dayGood, dayOf}
 use Rattle.fields.specs.Tenths.{tenthsGood, tenthsOf}
 use Rattle.fields.specs.Frequencies.{amountGood, unitGood, unitOf, frequencyOf}
@@ -96,7 +97,7 @@ table =
 
 -- They hold of the rules.
 pub figures-hold : AllHold table
-unfolding Holds among isHex isNarrow isText isName skip trimmed every howMany each byteGood same oneOf leading numberFrom wholeDigits wholeOf unsigned signedOf magnitudeOf decimalOf dateRule dateIn dateOf dayGood dayOf tenthsGood tenthsOf amountGood unitGood unitOf frequencyOf radiusOf groundOf heightGood heightOf arcSeconds arcGood arcOf positionGood positionOf bandwidthGood detailGood emissionGood cellGood installationGood remarksGood isCategory classGood serviceGood usersGood isCarrier nameGood countryGood isBasis polarisationGood antennaGood isStatus referenceGood firstBroken fieldsOf fieldRules mobile roundAntenna betweenRules stationOf valueOf stationCode
+unfolding Holds among isHex isNarrow isText isName skip trimmed every howMany each byteGood same oneOf leading numberFrom wholeDigits wholeOf unsigned signedOf fractionOf magnitudeOf decimalOf dateRule dateIn dateOf dayGood dayOf tenthsGood tenthsOf amountGood unitGood unitOf frequencyOf radiusOf groundOf heightGood heightOf arcSeconds arcGood arcOf positionGood positionOf bandwidthGood detailGood emissionGood cellGood installationGood remarksGood isCategory classGood serviceGood usersGood isCarrier nameGood countryGood isBasis polarisationGood antennaGood isStatus referenceGood firstBroken fieldsOf fieldRules mobile roundAntenna betweenRules stationOf valueOf stationCode
 figures-hold = (
   (refl, refl),
   (

@@ -5,7 +5,8 @@ use mathlib.Core.Path.{_≡_, refl}
 use mathlib.Core.List.{List, [], _∷_, _++_}
 use Rattle.columns.specs.Sets.{among, isHex, isNarrow, isText, isName, isMail}
 use Rattle.columns.specs.Texts.{skip, trimmed, every, howMany, each, byteGood, same, oneOf, textGood, bytes}
-use Rattle.columns.specs.Numbers.{leading, numberFrom, wholeDigits, wholeOf, unsigned, signedOf, magnitudeOf, decimalOf, spellDigits, spellMagnitude, spellDecimal, spellSigned}
+use Rattle.columns.specs.Numbers.{leading, numberFrom, wholeDigits, wholeOf, unsigned, signedOf, spellDigits, spellSigned}
+use Rattle.columns.specs.Decimals.{fractionOf, magnitudeOf, decimalOf, spellMagnitude, spellDecimal}
 use Rattle.columns.specs.Dates.{dateRule, dateIn, dateOf, dayGood, dayOf, dateGood, dateFits, dayFits, spellDate, spellDay}
 use Rattle.fields.specs.Tenths.{tenthsGood, tenthsOf, tenthsFit, spellTenths}
 use Rattle.fields.specs.Frequencies.{amountGood, unitGood, unitOf, frequencyOf, frequencyFits, unitLetter, spellAmount, spellUnit}
@@ -120,7 +121,7 @@ pub record Worked : Type 0 where
   pub no-field : refusal (showOutcome two 0 15) ≡ 8
 
 pub worked : Worked
-unfolding Holds among isHex isNarrow isText isName skip trimmed every howMany each byteGood same oneOf leading numberFrom wholeDigits wholeOf unsigned signedOf magnitudeOf decimalOf dateRule dateIn dateOf dayGood dayOf tenthsGood tenthsOf amountGood unitGood unitOf frequencyOf radiusOf groundOf heightGood heightOf arcSeconds arcGood arcOf positionGood positionOf bandwidthGood detailGood emissionGood cellGood installationGood remarksGood isCategory classGood serviceGood usersGood isCarrier nameGood countryGood isBasis polarisationGood antennaGood isStatus referenceGood firstBroken fieldsOf fieldRules mobile roundAntenna betweenRules stationOf valueOf stationCode isMail textGood dateGood serialGood serialOf headerOf headerFields headerRules headerValue headerCode filedHeaderCode stations recordAt withRecord referenceAt codeAt tooLong notRecords fieldAt fieldCount twinAt rowOf rowIn bad trailer withTrailer judgedSheet sheetOf headIn trailerFits touched mendedRow replacing.mendedSheet rowsWritten refusal ifDone fileOutcome replaceOutcome replacedSheet replacedRows showOutcome shownField frequencyFits dayFits radiusFits groundFits heightFits positionFits tenthsFit channelRules siteRules emissionRules antennaRules filingRules typedRules typedCode spellDigits spellMagnitude spellDecimal spellSigned spellDate spellDay spellTenths unitLetter spellAmount spellUnit spellRadius spellGround spellHeight spellArc spellPosition channelPieces sitePieces emissionPieces antennaPieces filingPieces stationPieces spellStation
+unfolding Holds among isHex isNarrow isText isName skip trimmed every howMany each byteGood same oneOf leading numberFrom wholeDigits wholeOf unsigned signedOf fractionOf magnitudeOf decimalOf dateRule dateIn dateOf dayGood dayOf tenthsGood tenthsOf amountGood unitGood unitOf frequencyOf radiusOf groundOf heightGood heightOf arcSeconds arcGood arcOf positionGood positionOf bandwidthGood detailGood emissionGood cellGood installationGood remarksGood isCategory classGood serviceGood usersGood isCarrier nameGood countryGood isBasis polarisationGood antennaGood isStatus referenceGood firstBroken fieldsOf fieldRules mobile roundAntenna betweenRules stationOf valueOf stationCode isMail textGood dateGood serialGood serialOf headerOf headerFields headerRules headerValue headerCode filedHeaderCode stations recordAt withRecord referenceAt codeAt tooLong notRecords fieldAt fieldCount twinAt rowOf rowIn bad trailer withTrailer judgedSheet sheetOf headIn trailerFits touched mendedRow replacing.mendedSheet rowsWritten refusal ifDone fileOutcome replaceOutcome replacedSheet replacedRows showOutcome shownField frequencyFits dayFits radiusFits groundFits heightFits positionFits tenthsFit channelRules siteRules emissionRules antennaRules filingRules typedRules typedCode spellDigits spellMagnitude spellDecimal spellSigned spellDate spellDay spellTenths unitLetter spellAmount spellUnit spellRadius spellGround spellHeight spellArc spellPosition channelPieces sitePieces emissionPieces antennaPieces filingPieces stationPieces spellStation
 worked = record {
   traps-hold = (
     (refl, refl),

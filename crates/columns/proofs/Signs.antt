@@ -1,0 +1,39 @@
+-- Numbers below zero, and their magnitudes, in 64 bits.
+-- Assumes nothing.
+use mathlib.Core.Path.{_≡_, refl}
+use mathlib.Core.Bool.{true, false, false≢true, true≢false}
+use Prim.Native.Nat.{zero, suc, _^_, _<_, zero-le}
+use native.Mathlib.Omega.{arith}
+use lib.IntN.{ℤ, pos, negsuc, negℤ, natAbs}
+use lib.Dec.{T, lit<}
+use lib.Signed.{ltZ, nonNeg}
+use mir.Syntax.{w64}
+use mir.Val.{SFits}
+use borrow.Author.Tests.{le-ltb}
+use Rattle.columns.specs.Numbers.{isNegative}
+
+-- a number of eighteen digits can be negated
+pub neg-fits : (z : ℤ) → natAbs z < 10 ^ 18 → SFits w64 (negℤ z)
+neg-fits (pos zero) h = record { sfits = lit< tt }
+neg-fits (pos (suc n)) h = record { sfits = omega arith }
+neg-fits (negsuc n) h = record { sfits = omega arith }
+
+-- and has the same magnitude
+pub natAbs-neg : (z : ℤ) → natAbs (negℤ z) ≡ natAbs z
+natAbs-neg (pos zero) = refl
+natAbs-neg (pos (suc n)) = refl
+natAbs-neg (negsuc n) = refl
+
+-- the comparison with zero tells the sign
+pub below-zero : (z : ℤ) → ltZ z (pos 0) ≡ isNegative z
+below-zero (pos n) = le-ltb n 0 zero-le
+below-zero (negsuc n) = refl
+
+-- a magnitude is not below zero
+pub non-neg-neg : (z : ℤ) → isNegative z ≡ true → T (nonNeg (negℤ z))
+non-neg-neg (pos n) e = absurd (false≢true e)
+non-neg-neg (negsuc n) e = tt
+
+pub non-neg : (z : ℤ) → isNegative z ≡ false → T (nonNeg z)
+non-neg (pos n) e = tt
+non-neg (negsuc n) e = absurd (true≢false e)

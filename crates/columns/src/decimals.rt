@@ -1,0 +1,116 @@
+// Decimals in the five formats of the paper, read and written.
+use crate::numbers::{after_sign, digits, has_minus, in_sign, Signed, Whole};
+use crate::texts::{byte, is_blank, spaces};
+ghost use mathlib.Core.Path.{_≡_};
+ghost use Prim.Native.Nat.{_+_, _-_, _*_, _^_, _≤_, _<_};
+ghost use Rattle.columns.specs.Decimals.{fractionOf, magnitudeOf, decimalOf, digitsBefore, digitsAfter, maySign, formatOf};
+
+// The field that a decimal stands in: it decides the digits before the point and after it, and the sign.
+pub enum Format {
+    Frequency,
+    Power,
+    Azimuth,
+    Elevation,
+    Gain,
+}
+
+// How many digits may stand before the point.
+fn digits_before(format: Format) -> usize
+    ensures { λ r. ⌜ r ≡ digitsBefore format ⌝ }
+{
+    match format {
+        Format::Frequency => 5,
+        Format::Power => 3,
+        Format::Azimuth => 3,
+        Format::Elevation => 2,
+        Format::Gain => 2,
+    }
+}
+
+// How many digits may stand after the point.
+fn digits_after(format: Format) -> usize
+    ensures { λ r. ⌜ r ≡ digitsAfter format ⌝ }
+{
+    match format {
+        Format::Frequency => 5,
+        Format::Power => 1,
+        Format::Azimuth => 1,
+        Format::Elevation => 1,
+        Format::Gain => 1,
+    }
+}
+
+// Whether a sign may stand.
+fn may_sign(format: Format) -> bool
+    ensures { λ r. ⌜ r ≡ maySign format ⌝ }
+{
+    match format {
+        Format::Frequency => false,
+        Format::Power => true,
+        Format::Azimuth => false,
+        Format::Elevation => true,
+        Format::Gain => false,
+    }
+}
+
+// v with k zeros behind it.
+fn scaled(v: u64, k: usize) -> u64
+    requires { ⌜ (k ≤ 18) × (v < 10 ^ (18 - k)) ⌝ }
+    ensures { λ r. ⌜ r ≡ v * 10 ^ k ⌝ }
+{
+    let mut r = v;
+    let mut left = k;
+    while 0 < left {
+        left -= 1;
+        r = r * 10;
+    }
+    r
+}
+
+// Behind the point: 1 to b digits and spaces, read onto v.
+fn fraction_of(t: &[u8], b: usize, v: u64) -> Whole
+    requires { ⌜ (b ≤ 18) × (v < 10 ^ (18 - b)) ⌝ }
+    ensures { λ r. ⌜ r ≡ fractionOf b v (now (t .entry)) ⌝ }
+{
+    let f = digits(t, b, v);
+    let n = f.count;
+    let m = f.value;
+    if n == 0 {
+        return Whole::Bad;
+    }
+    if !is_blank(&t[n..]) {
+        return Whole::Bad;
+    }
+    Whole::Filled(scaled(m, b - n))
+}
+
+// Up to a digits, a point, and what stands behind it.
+fn magnitude_of(t: &[u8], a: usize, b: usize) -> Whole
+    requires { ⌜ a + b ≤ 18 ⌝ }
+    ensures { λ r. ⌜ r ≡ magnitudeOf a b (now (t .entry)) ⌝ }
+{
+    let w = digits(t, a, 0);
+    let p = w.count;
+    let v = w.value;
+    if byte(t, p) != b'.' {
+        return Whole::Bad;
+    }
+    let q = p + 1;
+    fraction_of(&t[q..], b, v)
+}
+
+// A decimal of a format.
+pub fn read_decimal(format: Format, s: &[u8]) -> Signed
+    ensures { λ r. ⌜ r ≡ formatOf format (now (s .entry)) ⌝ }
+{
+    let i = spaces(s);
+    if i == s.len() {
+        return Signed::Blank;
+    }
+    let a = digits_before(format);
+    let b = digits_after(format);
+    let sign = may_sign(format);
+    let t = &s[i..];
+    let minus = has_minus(sign, t);
+    in_sign(minus, magnitude_of(after_sign(sign, t), a, b))
+}
