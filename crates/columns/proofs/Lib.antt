@@ -3,3 +3,4 @@ pub mod TextLaws
 pub mod NumberLaws
 pub mod DecimalLaws
 pub mod Signs
+pub mod Spelling

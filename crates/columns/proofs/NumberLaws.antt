@@ -3,14 +3,14 @@
 use mathlib.Core.Path.{_≡_, refl, sym, ap, _∙_}
 use mathlib.Core.Bool.{Bool, true, false, cond, not, _&&_, false≢true}
 use mathlib.Core.List.{List, [], _∷_, _++_}
-use Prim.Native.Nat.{ℕ, zero, suc, _+_, _-_, _*_, _^_, _≤_, _<_}
+use Prim.Native.Nat.{ℕ, zero, suc, _+_, _-_, _*_, _/_, _^_, _≤_, _<_}
 use native.Mathlib.Omega.{arith}
 use native.Mathlib.Decide.{decLt}
 use native.Mathlib.Numerals.{add-one, sub-one}
-use native.Mathlib.Nat.{zero-add, add-zero, add-suc, suc-add, pow-suc, pow-succ', pow-le-pow-right, mul-assoc}
-use lib.Dec.{leb}
+use native.Mathlib.Nat.{zero-add, add-zero, add-suc, suc-add, pow-suc, pow-succ', pow-le-pow-right, mul-assoc, one-le-pow}
+use lib.Dec.{leb, ltb, eqb}
 use lib.ListN.{length, getD, drop, List·getD-eq-default}
-use borrow.Author.Tests.{leb-true}
+use borrow.Author.Tests.{leb-true, lt-ltb, le-ltb, ne-eqb}
 use Rattle.columns.specs.Sets.{isDigit}
 use Rattle.columns.specs.Texts.{head, tail, ended, skip, every}
 use Rattle.columns.specs.Numbers.{leading, numberFrom, wholeDigits, amount, inSign, hasMinus, unsigned, numberOf}
@@ -137,3 +137,23 @@ scale-turn r zero h l b = absurd (omega arith)
 scale-turn r (suc k) h l b =
     let m = room (suc k) r h l b in
     (omega (arith, m .0), rw (sub-one, pow-succ', mul-assoc), m .1)
+
+-- a number has k digits where it has k - 1 without its last
+pub fits-turn : (k v : ℕ) → 0 < k → ltb v (10 ^ k) ≡ ltb (v / 10) (10 ^ (k - 1))
+fits-turn zero v h = absurd (omega arith)
+fits-turn (suc k) v h =
+    rw sub-one
+    (elim (decLt v (10 ^ suc k)) [
+      yes l ↦ lt-ltb v (10 ^ suc k) l ∙ sym (lt-ltb (v / 10) (10 ^ k) (omega (arith, pow-suc 10 k)))
+    | no l ↦ le-ltb v (10 ^ suc k) (omega arith) ∙ sym (le-ltb (v / 10) (10 ^ k) (omega (arith, pow-suc 10 k)))
+    ])
+
+-- zero has its places anywhere
+pub fits-zero : (k v : ℕ) → v ≡ 0 → ltb v (10 ^ k) ≡ true
+fits-zero k v e = rw e (lt-ltb 0 (10 ^ k) (one-le-pow k 10 (omega arith)))
+
+-- and with no places left nothing else has
+pub fits-none : (k v : ℕ) → k ≤ 0 → ltb v (10 ^ k) ≡ eqb v 0
+fits-none zero zero h = refl
+fits-none zero (suc v) h = le-ltb (suc v) 1 (omega arith) ∙ sym (ne-eqb (suc v) 0 (λ e. omega arith))
+fits-none (suc k) v h = absurd (omega arith)

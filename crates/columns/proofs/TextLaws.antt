@@ -28,6 +28,14 @@ pub cond-case : {A : Type 0} (P : A → Type 0) (b : Bool) {x y : A} → (b ≡ 
 cond-case P true f g = f refl
 cond-case P false f g = g refl
 
+-- a writer's promise: where the test fails nothing is written,
+pub kept : {A : Type 0} {t : Bool} (x : A) {y : A} → t ≡ false → (false ≡ t) × (y ≡ cond t x y)
+kept x e = rw e (refl, refl)
+
+-- and where it passes the spelling stands
+pub wrote : {A : Type 0} {t : Bool} {s x : A} (y : A) → t ≡ true → s ≡ x → (true ≡ t) × (s ≡ cond t x y)
+wrote y e f = rw e (refl, f)
+
 -- the first byte of a rest, and the rest after it
 pub head-at : (s : List ℕ) (i : ℕ) → head (drop i s) ≡ getD s i 0
 head-at s i = rw (getD-drop, add-zero)

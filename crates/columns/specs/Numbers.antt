@@ -100,10 +100,14 @@ abbrev pub isNegative : ℤ → Bool
 isNegative (pos n) = false
 isNegative (negsuc n) = true
 
--- A whole number with a sign in k + 1 columns: below zero minus and k digits, else k + 1 digits.
-unfoldable pub spellSigned : ℕ → ℤ → List ℕ
-spellSigned k z = cond (isNegative z) (45 ∷ spellDigits k (natAbs z) []) (spellDigits (suc k) (natAbs z) [])
-
 -- A whole number has its digits' places in k columns.
 abbrev pub wholeFits : ℕ → ℕ → Bool
 wholeFits k v = ltb v (10 ^ k)
+
+-- A whole number with a sign in w columns: below zero minus and w - 1 digits, else w digits.
+unfoldable pub spellSigned : ℕ → ℤ → List ℕ
+spellSigned w z = cond (isNegative z) (45 ∷ spellWhole (w - 1) (natAbs z)) (spellWhole w (natAbs z))
+
+-- It has its places there.
+unfoldable pub signedFits : ℕ → ℤ → Bool
+signedFits w z = ltb 0 w && cond (isNegative z) (wholeFits (w - 1) (natAbs z)) (wholeFits w (natAbs z))

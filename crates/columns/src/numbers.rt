@@ -2,11 +2,12 @@
 use crate::sets::is_digit;
 use crate::texts::{byte, spaces};
 ghost use mathlib.Core.Path.{_≡_};
+ghost use mathlib.Core.Bool.{cond};
 ghost use mathlib.Core.List.{[], _++_};
 ghost use Prim.Native.Nat.{_+_, _-_, _/_, _^_, _≤_, _<_};
 ghost use lib.ListN.{length, take, drop};
 ghost use lib.IntN.{natAbs};
-ghost use Rattle.columns.specs.Numbers.{leading, numberFrom, wholeDigits, wholeOf, amount, withSign, inSign, hasMinus, unsigned, signedOf, spellDigits, isNegative};
+ghost use Rattle.columns.specs.Numbers.{leading, numberFrom, wholeDigits, wholeOf, amount, withSign, inSign, hasMinus, unsigned, signedOf, spellDigits, spellWhole, wholeFits, isNegative};
 
 // A whole number, read from its columns.
 pub enum Whole {
@@ -131,4 +132,74 @@ pub fn read_signed(s: &[u8]) -> Signed
     let t = &s[i..];
     let minus = has_minus(true, t);
     in_sign(minus, only_digits(after_sign(true, t)))
+}
+
+// Writes the last count decimal digits of v from at on, and answers what is left of v.
+pub(crate) fn put_digits(s: &mut [u8], at: usize, count: usize, v: u64) -> u64
+    requires { ⌜ at + count ≤ length (now s) ⌝ }
+    ensures { λ r. ⌜ (r ≡ v / 10 ^ count) × (now (s .exit) ≡ take at (now (s .entry)) ++ spellDigits count v (drop (at + count) (now (s .entry)))) ⌝ }
+{
+    let mut rest = v;
+    let mut left = count;
+    while 0 < left {
+        left -= 1;
+        s[at + left] = 48 + (rest % 10) as u8;
+        rest = rest / 10;
+    }
+    rest
+}
+
+// Writes the last digits of v, one in each column.
+pub fn put_whole(s: &mut [u8], v: u64)
+    ensures { λ _. ⌜ now (s .exit) ≡ spellWhole (length (now (s .entry))) v ⌝ }
+{
+    let n = s.len();
+    put_digits(s, 0, n, v);
+}
+
+// Whether v has no more than k digits.
+pub fn fits_whole(k: usize, v: u64) -> bool
+    ensures { λ r. ⌜ r ≡ wholeFits k v ⌝ }
+{
+    let mut rest = v;
+    let mut left = k;
+    while 0 < left {
+        if rest == 0 {
+            return true;
+        }
+        left -= 1;
+        rest = rest / 10;
+    }
+    rest == 0
+}
+
+// A whole number in columns that have a place for each digit; in others nothing is written.
+pub fn write_whole(s: &mut [u8], v: u64) -> bool
+    ensures { λ r. ⌜ r ≡ wholeFits (length (now (s .entry))) v ⌝ }
+    ensures { λ _. ⌜ now (s .exit) ≡ cond (wholeFits (length (now (s .entry))) v) (spellWhole (length (now (s .entry))) v) (now (s .entry)) ⌝ }
+{
+    if !fits_whole(s.len(), v) {
+        return false;
+    }
+    put_whole(s, v);
+    true
+}
+
+// Whether v is below zero.
+pub fn is_negative(v: i64) -> bool
+    ensures { λ r. ⌜ r ≡ isNegative v ⌝ }
+{
+    v < 0
+}
+
+// v without its sign.
+pub fn magnitude(v: i64) -> u64
+    ensures { λ r. ⌜ r ≡ natAbs v ⌝ }
+{
+    if v < 0 {
+        let w = v + 1;
+        let n = 0 - w;
+        return n as u64 + 1;
+    }
+    v as u64
 }

@@ -63,7 +63,7 @@ heightFits (height.Filled m) = heightRange (m .0)
 -- and its spelling: below zero minus and three digits, else four digits.
 unfoldable pub spellHeight : Height → List ℕ
 spellHeight height.Blank = replicate 4 32
-spellHeight (height.Filled m) = spellSigned 3 (m .0)
+spellHeight (height.Filled m) = spellSigned 4 (m .0)
 
 -- The height is filled.
 abbrev pub hasHeight : Height → Bool

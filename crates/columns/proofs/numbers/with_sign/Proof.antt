@@ -12,10 +12,10 @@ cast-n : tie.Need-cast-n
 cast-n c = search needs
 
 sub-result : tie.Need-sub-result
-sub-result c = rw (toZ-pos w64 {n = c .before .args .v} (omega arith), +ℤ-idl) (neg-fits (pos (c .before .args .v)) (c .before .pre))
+sub-result c = rw (toZ-pos w64 {n = c .before .args .v} (omega arith), +ℤ-idl) (neg-fits (pos (c .before .args .v)) (omega arith))
 
 returns : tie.Need-returns
-returns c = rw (toZ-pos w64 {n = c .before .args .v} (omega arith), +ℤ-idl, c .if1 .taken) (toZ-ofZ (neg-fits (pos (c .before .args .v)) (c .before .pre)))
+returns c = rw (toZ-pos w64 {n = c .before .args .v} (omega arith), +ℤ-idl, c .if1 .taken) (toZ-ofZ (neg-fits (pos (c .before .args .v)) (omega arith)))
 
 returns-2 : tie.Need-returns-2
 returns-2 c = rw (c .if1 .left) (toZ-pos w64 (omega arith))

@@ -1,0 +1,76 @@
+-- Digits that are written, place by place.
+-- Assumes nothing.
+use mathlib.Core.Path.{_≡_, refl, sym, ap, _∙_}
+use mathlib.Core.List.{List, [], _∷_, _++_}
+use mathlib.Core.Bool.{Bool, true, false, cond}
+use Prim.Native.Nat.{ℕ, zero, suc, _+_, _-_, _/_, _%_, _^_, _≤_, _<_}
+use native.Mathlib.Omega.{arith}
+use native.Mathlib.Numerals.{sub-one}
+use native.Mathlib.Nat.{add-zero, add-suc, pow-succ', div-one, div-div-eq-div-mul}
+use lib.ListN.{length, set, take, drop, length-append, drop-of-length-le, take-append-drop}
+use lib.Seq.{set-split, drop-at, length-take-le, take-set-le, take-append-le, take-take}
+use Rattle.columns.specs.Numbers.{spellDigits, isNegative}
+use Rattle.columns.specs.Decimals.{spellMagnitude, spellDecimal, decimalWidth}
+use lib.IntN.{ℤ, natAbs}
+
+-- what stands from a place on after it is written
+drop-set : (l : List ℕ) (j x : ℕ) → j < length l → drop j (set l j x) ≡ x ∷ drop (suc j) l
+drop-set l j x h = rw (set-split l j x h) (drop-at (take j l) (x ∷ drop (suc j) l) j (length-take-le j l (omega arith)))
+
+-- one more digit, put in front of those that stand
+pub spell-turn : (s : List ℕ) (at k m : ℕ) → 0 < k → at + k ≤ length s
+    → spellDigits k m (drop (at + k) s) ≡ spellDigits (k - 1) (m / 10) (drop (at + (k - 1)) (set s (at + (k - 1)) (48 + m % 10)))
+unfolding spellDigits
+spell-turn s at zero m h l = absurd (omega arith)
+spell-turn s at (suc k) m h l = rw (sub-one, drop-set s (at + k) (48 + m % 10) (omega arith), add-suc)
+
+-- and what is left of the number
+pub div-turn : (k m : ℕ) → 0 < k → m / 10 ^ k ≡ m / 10 / 10 ^ (k - 1)
+div-turn zero m h = absurd (omega arith)
+div-turn (suc k) m h = rw (sub-one, div-div-eq-div-mul, pow-succ')
+
+-- no digits at all
+pub spell-none : (k m : ℕ) (t : List ℕ) → k ≤ 0 → spellDigits k m t ≡ t
+unfolding spellDigits
+spell-none zero m t h = refl
+spell-none (suc k) m t h = absurd (omega arith)
+
+pub div-none : (k m : ℕ) → k ≤ 0 → m / 10 ^ k ≡ m
+div-none zero m h = div-one m
+div-none (suc k) m h = absurd (omega arith)
+
+-- the front of a list is as it was, and the rest is all written
+pub put-done : (s s₀ t : List ℕ) (at k m : ℕ) → k ≤ 0 → take at s ≡ take at s₀ → t ≡ spellDigits k m (drop (at + k) s) → s ≡ take at s₀ ++ t
+unfolding spellDigits
+put-done s s₀ t at zero m h e f = rw (← e, f, add-zero) (sym (take-append-drop at s))
+put-done s s₀ t at (suc k) m h e f = absurd (omega arith)
+
+-- the digits after the point, the point, and the digits before it
+pub put-parts : (s s₁ s₃ : List ℕ) (o a b v hi : ℕ) → length s ≡ o + a + 1 + b → hi ≡ v / 10 ^ b
+    → s₁ ≡ take (o + a + 1) s ++ spellDigits b v (drop (o + a + 1 + b) s)
+    → s₃ ≡ take o (set s₁ (o + a) 46) ++ spellDigits a hi (drop (o + a) (set s₁ (o + a) 46))
+    → s₃ ≡ take o s ++ spellMagnitude a b v
+unfolding spellMagnitude
+put-parts s s₁ s₃ o a b v hi n h e f =
+    let S = spellDigits b v [] in
+    let e′ : s₁ ≡ take (o + a + 1) s ++ S = rw (drop-of-length-le s {i = o + a + 1 + b} (omega arith)) at e in
+    let l : length (take (o + a + 1) s) ≡ suc (o + a) = length-take-le (o + a + 1) s (omega arith) ∙ omega arith in
+    let l₁ : o + a < length s₁ = omega (arith, ap length e′, length-append (take (o + a + 1) s) S) in
+    let d : drop (suc (o + a)) s₁ ≡ S = rw e′ (drop-at (take (o + a + 1) s) S (suc (o + a)) l) in
+    let t : take o s₁ ≡ take o s = rw e′ (take-append-le o (take (o + a + 1) s) S (omega arith) ∙ take-take o (o + a + 1) s (omega arith)) in
+    f ∙ rw (drop-set s₁ (o + a) 46 l₁, take-set-le o s₁ (o + a) 46 (omega arith), d, t, h)
+
+-- a byte in the first column
+pub put-first : (s t : List ℕ) (x : ℕ) → 1 ≤ length s → set (take 1 s ++ t) 0 x ≡ x ∷ t
+put-first [] t x h = absurd (omega arith)
+put-first (y ∷ s) t x h = refl
+
+-- a decimal with a sign column, and one without
+module _ (s : List ℕ) (a b : ℕ) (sign : Bool) (z : ℤ) (m : ℕ) (n : length s ≡ decimalWidth a b sign) (h : m ≡ natAbs z) where
+  pub put-sign : sign ≡ true → (s′ : List ℕ) (x : ℕ) → cond (isNegative z) 45 32 ≡ x → s′ ≡ take 1 s ++ spellMagnitude a b m → set s′ 0 x ≡ spellDecimal a b sign z
+  unfolding spellDecimal
+  put-sign e s′ x q f = let n′ : length s ≡ 1 + a + 1 + b = rw e at n in rw (f, e, ← h, q) (put-first s _ x (omega arith))
+
+  pub put-plain : sign ≡ false → (s′ : List ℕ) → s′ ≡ take 0 s ++ spellMagnitude a b m → s′ ≡ spellDecimal a b sign z
+  unfolding spellDecimal
+  put-plain e s′ f = rw (f, e, ← h)

@@ -1,0 +1,11 @@
+-- `columns::numbers::is_negative` meets its contract. Assumes nothing.
+use mir.Facts.{toZ-ofZ}
+use Rattle.columns.proofs.Signs.{below-zero}
+use Rattle.columns.proofs.numbers.is_negative.Statement.{statement}
+use Rattle.columns.proofs.numbers.is_negative.Tie as tie
+
+returns : tie.Need-returns
+returns c = rw (toZ-ofZ (c .fits .v)) (below-zero (c .args .v))
+
+pub is-negative-spec : {M : Type 1} → statement M
+is-negative-spec = tie.close (tie.spec returns)
