@@ -45,6 +45,27 @@ unfolding spellDigits
 put-done s s₀ t at zero m h e f = rw (← e, f, add-zero) (sym (take-append-drop at s))
 put-done s s₀ t at (suc k) m h e f = absurd (omega arith)
 
+-- digits written in front of what stands from a place on
+pub put-before : (s s₁ s₂ t : List ℕ) (at k v : ℕ) → at + k ≤ length s → s₁ ≡ take (at + k) s ++ t → s₂ ≡ take at s₁ ++ spellDigits k v (drop (at + k) s₁) → s₂ ≡ take at s ++ spellDigits k v t
+put-before s s₁ s₂ t at k v n e f =
+    let l : length (take (at + k) s) ≡ at + k = length-take-le (at + k) s n in
+    let d : drop (at + k) s₁ ≡ t = rw e (drop-at (take (at + k) s) t (at + k) l) in
+    let p : take at s₁ ≡ take at s = rw e (take-append-le at (take (at + k) s) t (omega arith) ∙ take-take at (at + k) s (omega arith)) in
+    f ∙ rw (d, p)
+
+-- a byte written in front of what stands from the next place on
+pub set-before : (s s₁ t : List ℕ) (at x : ℕ) → at < length s → s₁ ≡ take (at + 1) s ++ t → set s₁ at x ≡ take at s ++ (x ∷ t)
+set-before s s₁ t at x n e =
+    let l : length (take (at + 1) s) ≡ suc at = length-take-le (at + 1) s (omega arith) ∙ omega arith in
+    let l₁ : at < length s₁ = omega (arith, ap length e, length-append (take (at + 1) s) t) in
+    let d : drop (suc at) s₁ ≡ t = rw e (drop-at (take (at + 1) s) t (suc at) l) in
+    let p : take at s₁ ≡ take at s = rw e (take-append-le at (take (at + 1) s) t (omega arith) ∙ take-take at (at + 1) s (omega arith)) in
+    set-split s₁ at x l₁ ∙ rw (d, p)
+
+-- digits written at the end
+pub put-last : (s s₁ : List ℕ) (at k v : ℕ) → length s ≡ at + k → s₁ ≡ take at s ++ spellDigits k v (drop (at + k) s) → s₁ ≡ take at s ++ spellDigits k v []
+put-last s s₁ at k v n e = e ∙ rw (drop-of-length-le s {i = at + k} (omega arith))
+
 -- the digits after the point, the point, and the digits before it
 pub put-parts : (s s₁ s₃ : List ℕ) (o a b v hi : ℕ) → length s ≡ o + a + 1 + b → hi ≡ v / 10 ^ b
     → s₁ ≡ take (o + a + 1) s ++ spellDigits b v (drop (o + a + 1 + b) s)
@@ -52,13 +73,8 @@ pub put-parts : (s s₁ s₃ : List ℕ) (o a b v hi : ℕ) → length s ≡ o +
     → s₃ ≡ take o s ++ spellMagnitude a b v
 unfolding spellMagnitude
 put-parts s s₁ s₃ o a b v hi n h e f =
-    let S = spellDigits b v [] in
-    let e′ : s₁ ≡ take (o + a + 1) s ++ S = rw (drop-of-length-le s {i = o + a + 1 + b} (omega arith)) at e in
-    let l : length (take (o + a + 1) s) ≡ suc (o + a) = length-take-le (o + a + 1) s (omega arith) ∙ omega arith in
-    let l₁ : o + a < length s₁ = omega (arith, ap length e′, length-append (take (o + a + 1) s) S) in
-    let d : drop (suc (o + a)) s₁ ≡ S = rw e′ (drop-at (take (o + a + 1) s) S (suc (o + a)) l) in
-    let t : take o s₁ ≡ take o s = rw e′ (take-append-le o (take (o + a + 1) s) S (omega arith) ∙ take-take o (o + a + 1) s (omega arith)) in
-    f ∙ rw (drop-set s₁ (o + a) 46 l₁, take-set-le o s₁ (o + a) 46 (omega arith), d, t, h)
+    let point = set-before s s₁ (spellDigits b v []) (o + a) 46 (omega arith) (put-last s s₁ (o + a + 1) b v n e) in
+    put-before s (set s₁ (o + a) 46) s₃ (46 ∷ spellDigits b v []) o a hi (omega arith) point f ∙ rw h
 
 -- a byte in the first column
 pub put-first : (s t : List ℕ) (x : ℕ) → 1 ≤ length s → set (take 1 s ++ t) 0 x ≡ x ∷ t

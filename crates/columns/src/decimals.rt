@@ -1,9 +1,13 @@
 // Decimals in the five formats of the paper, read and written.
-use crate::numbers::{after_sign, digits, has_minus, in_sign, Signed, Whole};
+use crate::numbers::{after_sign, digits, fits_whole, has_minus, in_sign, is_negative, magnitude, put_digits, Signed, Whole};
 use crate::texts::{byte, is_blank, spaces};
 ghost use mathlib.Core.Path.{_≡_};
+ghost use mathlib.Core.Bool.{cond, _&&_};
+ghost use mathlib.Core.List.{_++_};
+ghost use lib.ListN.{length, take};
 ghost use Prim.Native.Nat.{_+_, _-_, _*_, _^_, _≤_, _<_};
-ghost use Rattle.columns.specs.Decimals.{fractionOf, magnitudeOf, decimalOf, digitsBefore, digitsAfter, maySign, formatOf};
+ghost use Rattle.columns.specs.Decimals.{fractionOf, magnitudeOf, decimalOf, digitsBefore, digitsAfter, maySign, formatOf, formatWidth, formatFits, spellFormat, spellMagnitude, spellDecimal, decimalWidth};
+ghost use Rattle.columns.specs.Texts.{sized};
 
 // The field that a decimal stands in: it decides the digits before the point and after it, and the sign.
 pub enum Format {
@@ -113,4 +117,79 @@ pub fn read_decimal(format: Format, s: &[u8]) -> Signed
     let t = &s[i..];
     let minus = has_minus(sign, t);
     in_sign(minus, magnitude_of(after_sign(sign, t), a, b))
+}
+
+// How many columns a format has.
+pub fn decimal_width(format: Format) -> usize
+    ensures { λ r. ⌜ r ≡ formatWidth format ⌝ }
+{
+    match format {
+        Format::Frequency => 11,
+        Format::Power => 6,
+        Format::Azimuth => 5,
+        Format::Elevation => 5,
+        Format::Gain => 4,
+    }
+}
+
+// Whether a number's digits and its sign have their places in a format.
+pub fn fits_decimal(format: Format, v: i64) -> bool
+    ensures { λ r. ⌜ r ≡ formatFits format v ⌝ }
+{
+    let a = digits_before(format);
+    let b = digits_after(format);
+    if !fits_whole(a + b, magnitude(v)) {
+        return false;
+    }
+    if may_sign(format) {
+        return true;
+    }
+    !is_negative(v)
+}
+
+// Writes digits, a point and digits, from o to the end.
+fn put_magnitude(s: &mut [u8], o: usize, a: usize, b: usize, v: u64)
+    requires { ⌜ length (now s) ≡ o + a + 1 + b ⌝ }
+    ensures { λ _. ⌜ now (s .exit) ≡ take o (now (s .entry)) ++ spellMagnitude a b v ⌝ }
+{
+    let p = o + a;
+    let high = put_digits(s, p + 1, b, v);
+    s[p] = b'.';
+    put_digits(s, o, a, high);
+}
+
+// Writes a decimal in all of its columns.
+fn put_decimal(s: &mut [u8], a: usize, b: usize, sign: bool, v: i64)
+    requires { ⌜ length (now s) ≡ decimalWidth a b sign ⌝ }
+    ensures { λ _. ⌜ now (s .exit) ≡ spellDecimal a b sign v ⌝ }
+{
+    let m = magnitude(v);
+    if sign {
+        put_magnitude(s, 1, a, b, m);
+        if is_negative(v) {
+            s[0] = b'-';
+        } else {
+            s[0] = b' ';
+        }
+    } else {
+        put_magnitude(s, 0, a, b, m);
+    }
+}
+
+// A decimal that its format can spell, in columns of the format's width; else nothing is written.
+pub fn write_decimal(format: Format, s: &mut [u8], v: i64) -> bool
+    ensures { λ r. ⌜ r ≡ sized (formatWidth format) (now (s .entry)) && formatFits format v ⌝ }
+    ensures { λ _. ⌜ now (s .exit) ≡ cond (sized (formatWidth format) (now (s .entry)) && formatFits format v) (spellFormat format v) (now (s .entry)) ⌝ }
+{
+    if s.len() != decimal_width(format) {
+        return false;
+    }
+    if !fits_decimal(format, v) {
+        return false;
+    }
+    let a = digits_before(format);
+    let b = digits_after(format);
+    let sign = may_sign(format);
+    put_decimal(s, a, b, sign, v);
+    true
 }
