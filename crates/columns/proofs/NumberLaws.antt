@@ -9,7 +9,7 @@ use native.Mathlib.Decide.{decLt}
 use native.Mathlib.Numerals.{add-one, sub-one}
 use native.Mathlib.Nat.{zero-add, add-zero, add-suc, suc-add, pow-suc, pow-succ', pow-le-pow-right, mul-assoc, one-le-pow}
 use lib.Dec.{leb, ltb, eqb}
-use lib.ListN.{length, getD, drop, List·getD-eq-default}
+use lib.ListN.{length, getD, take, drop, length-take, List·getD-eq-default}
 use borrow.Author.Tests.{leb-true, lt-ltb, le-ltb, ne-eqb}
 use Rattle.columns.specs.Sets.{isDigit}
 use Rattle.columns.specs.Texts.{head, tail, ended, skip, every}
@@ -17,7 +17,7 @@ use Rattle.columns.specs.Numbers.{leading, numberFrom, wholeDigits, amou
 use Rattle.columns.specs.declared.numbers.Whole.{Whole}
 use Rattle.columns.specs.declared.numbers.Signed.{Signed}
 use Rattle.columns.specs.declared.numbers.Signed.the-variants as signed
-use Rattle.columns.proofs.TextLaws.{and-split, cond-case, head-at, tail-at, at-end, not-at-end}
+use Rattle.columns.proofs.TextLaws.{and-split, cond-case, head-at, tail-at, at-end, not-at-end, every-take, every-drop}
 
 pub digit-range : (c : ℕ) → isDigit c ≡ true → (48 ≤ c) × (c ≤ 57)
 digit-range c e = let h = and-split (leb 48 c) (leb c 57) e in (leb-true 48 c (h .0), leb-true c 57 (h .1))
@@ -157,3 +157,24 @@ pub fits-none : (k v : ℕ) → k ≤ 0 → ltb v (10 ^ k) ≡ eqb v 0
 fits-none zero zero h = refl
 fits-none zero (suc v) h = le-ltb (suc v) 1 (omega arith) ∙ sym (ne-eqb (suc v) 0 (λ e. omega arith))
 fits-none (suc k) v h = absurd (omega arith)
+
+-- digits that are no more than the places are all at the front
+pub leading-all : (k : ℕ) (p : List ℕ) → every isDigit p ≡ true → length p ≤ k → leading k p ≡ p
+unfolding leading every
+leading-all zero [] e h = refl
+leading-all zero (c ∷ p) e h = absurd (omega arith)
+leading-all (suc k) [] e h = refl
+leading-all (suc k) (c ∷ p) e h =
+    let d = and-split (isDigit c) (every isDigit p) e in
+    rw (d .0) (ap (λ (l : List ℕ). c ∷ l) (leading-all k p (d .1) (omega arith)))
+
+-- k digits say less than the k-th power
+pub digits-below : (k : ℕ) (p : List ℕ) → every isDigit p ≡ true → length p ≤ k → numberFrom 0 p < 10 ^ k
+digits-below k p e h = rw (leading-all k p e h) at (front-below k p)
+
+-- n digits from i on are digits, and say less than the n-th power
+pub digits-part : (n i : ℕ) (s : List ℕ) → every isDigit s ≡ true → (length (take n (drop i s)) ≤ n) × (every isDigit (take n (drop i s)) ≡ true)
+digits-part n i s e = (simp length-take (omega arith), every-take isDigit n (drop i s) (every-drop isDigit i s e))
+
+pub part-below : (n i : ℕ) (s : List ℕ) → every isDigit s ≡ true → numberFrom 0 (take n (drop i s)) < 10 ^ n
+part-below n i s e = let d = digits-part n i s e in digits-below n (take n (drop i s)) (d .1) (d .0)

@@ -1,7 +1,7 @@
 -- What the tests on texts do at a place of a list.
 -- Assumes nothing.
 use mathlib.Core.Path.{_≡_, refl, sym, ap, _∙_}
-use mathlib.Core.Bool.{Bool, true, false, cond, not, _&&_, _||_, false≢true}
+use mathlib.Core.Bool.{Bool, true, false, cond, not, _&&_, _||_, false≢true, and-false}
 use mathlib.Core.List.{List, [], _∷_, _++_}
 use Prim.Native.Nat.{ℕ, zero, suc, _+_, _-_, _≤_, _<_}
 use native.Mathlib.Omega.{arith}
@@ -9,11 +9,11 @@ use native.Mathlib.Decide.{decLt, ℕ-discrete}
 use native.Mathlib.Nat.{add-zero}
 use native.Mathlib.Numerals.{add-one}
 use lib.Arith.{lt-of-le-ne}
-use lib.Dec.{leb, eqb}
+use lib.Dec.{leb, eqb, eqb·suc-suc}
 use lib.ListN.{length, getD, take, drop, replicate, length-drop, drop-of-length-le, List·getD-eq-default}
 use lib.Seq.{drop-cons, getD-drop, drop-drop, take-all}
 use borrow.Author.Tests.{eq-eqb, ne-eqb}
-use Rattle.columns.specs.Texts.{head, tail, ended, skip, every, same}
+use Rattle.columns.specs.Texts.{head, tail, ended, skip, every, each, same}
 
 -- both tests passed
 pub and-split : (a b : Bool) → (a && b) ≡ true → (a ≡ true) × (b ≡ true)
@@ -124,3 +124,29 @@ not-same a b n = by (same a b) refl where
 pub blanked : (s : List ℕ) → replicate (length s) 32 ++ drop (length s) s ≡ replicate (length s) 32
 blanked [] = refl
 blanked (x ∷ s) = ap (λ (l : List ℕ). 32 ∷ l) (blanked s)
+
+-- a test on every byte passes on every part
+pub every-take : (test : ℕ → Bool) (n : ℕ) (p : List ℕ) → every test p ≡ true → every test (take n p) ≡ true
+unfolding every
+every-take test zero p e = refl
+every-take test (suc n) [] e = refl
+every-take test (suc n) (c ∷ p) e =
+    let h = and-split (test c) (every test p) e in
+    and-both (test c) (every test (take n p)) (h .0) (every-take test n p (h .1))
+
+pub every-drop : (test : ℕ → Bool) (n : ℕ) (p : List ℕ) → every test p ≡ true → every test (drop n p) ≡ true
+unfolding every
+every-drop test zero p e = e
+every-drop test (suc n) [] e = refl
+every-drop test (suc n) (c ∷ p) e = every-drop test n p (and-split (test c) (every test p) e .1)
+
+-- k places of one test: k bytes, and each passes
+pub each-replicate : (k : ℕ) (test : ℕ → Bool) (p : List ℕ) → each (replicate k test) p ≡ eqb (length p) k && every test p
+unfolding each every
+each-replicate zero test [] = refl
+each-replicate zero test (c ∷ p) = rw (ne-eqb (suc (length p)) 0 (λ e. omega arith))
+each-replicate (suc k) test [] = rw (ne-eqb 0 (suc k) (λ e. omega arith))
+each-replicate (suc k) test (c ∷ p) = by (test c) (each-replicate k test p) where
+  by : (b : Bool) → each (replicate k test) p ≡ eqb (length p) k && every test p → b && each (replicate k test) p ≡ eqb (suc (length p)) (suc k) && (b && every test p)
+  by true e = rw (eqb·suc-suc (length p) k) e
+  by false e = sym (and-false (eqb (suc (length p)) (suc k)))

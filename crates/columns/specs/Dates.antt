@@ -23,7 +23,7 @@ dateRule d = within 1 31 (d .day) && within 1 12 (d .month) && within 1901 9999 
 
 -- Eight digits: two of the day, two of the month, four of the year.
 unfoldable pub dateIn : List ℕ → Date
-dateIn p = record { day = number (take 2 p); month = number (take 2 (drop 2 p)); year = number (drop 4 p) }
+dateIn p = record { day = number (take 2 p); month = number (take 2 (drop 2 p)); year = number (take 4 (drop 4 p)) }
 
 -- What a date's columns say.
 unfoldable pub dateOf : List ℕ → Dated

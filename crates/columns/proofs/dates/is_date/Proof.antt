@@ -1,0 +1,46 @@
+-- `columns::dates::is_date` meets its contract. Assumes nothing.
+use borrow.Author.Tests.{not-true, not-false}
+use Rattle.columns.specs.Dates.{dateRule}
+use borrow.Author.Needs.{needs}
+use Rattle.columns.proofs.dates.is_date.Statement.{statement}
+use Rattle.columns.proofs.dates.is_date.Tie as tie
+
+cast-is-within : tie.Need-cast-is-within
+cast-is-within c = search needs
+
+is-within-requires : tie.Need-is-within-requires
+is-within-requires c κs = search needs
+
+returns : tie.Need-returns
+unfolding dateRule
+returns c = rw (← c .before .is-within .ensures, not-true (c .before .is-within .result) (c .if1 .taken))
+
+cast-is-within-2 : tie.Need-cast-is-within-2
+cast-is-within-2 c = search needs
+
+is-within-requires-2 : tie.Need-is-within-requires-2
+is-within-requires-2 c κs = search needs
+
+returns-2 : tie.Need-returns-2
+unfolding dateRule
+returns-2 c = let w = c .before .before .before .before in rw (← w .is-within .ensures, not-false (w .is-within .result) (c .before .before .before .if1 .left), ← c .before .is-within2 .ensures, not-true (c .before .is-within2 .result) (c .if2 .taken))
+
+is-within-requires-3 : tie.Need-is-within-requires-3
+is-within-requires-3 c κs = search needs
+
+returns-3 : tie.Need-returns-3
+unfolding dateRule
+returns-3 c = let w = c .before .before .before .before .before in rw (← w .is-within .ensures, not-false (w .is-within .result) (c .before .before .before .before .if1 .left), ← c .before .before .is-within2 .ensures, not-false (c .before .before .is-within2 .result) (c .before .if2 .left)) (c .is-within3 .ensures)
+
+pub is-date-spec : {M : Type 1} → statement M
+is-date-spec =
+    tie.close
+    (tie.spec
+    cast-is-within
+    is-within-requires
+    returns
+    cast-is-within-2
+    is-within-requires-2
+    returns-2
+    is-within-requires-3
+    returns-3)
