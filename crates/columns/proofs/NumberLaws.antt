@@ -144,8 +144,8 @@ fits-turn zero v h = absurd (omega arith)
 fits-turn (suc k) v h =
     rw sub-one
     (elim (decLt v (10 ^ suc k)) [
-      yes l ↦ lt-ltb v (10 ^ suc k) l ∙ sym (lt-ltb (v / 10) (10 ^ k) (omega (arith, pow-suc 10 k)))
-    | no l ↦ le-ltb v (10 ^ suc k) (omega arith) ∙ sym (le-ltb (v / 10) (10 ^ k) (omega (arith, pow-suc 10 k)))
+      | yes l ↦ lt-ltb v (10 ^ suc k) l ∙ sym (lt-ltb (v / 10) (10 ^ k) (omega (arith, pow-suc 10 k)))
+      | no l ↦ le-ltb v (10 ^ suc k) (omega arith) ∙ sym (le-ltb (v / 10) (10 ^ k) (omega (arith, pow-suc 10 k)))
     ])
 
 -- zero has its places anywhere

@@ -9,9 +9,12 @@ use native.Mathlib.Numerals.{sub-one}
 use native.Mathlib.Nat.{add-zero, add-suc, pow-succ', div-one, div-div-eq-div-mul}
 use lib.ListN.{length, set, take, drop, length-append, drop-of-length-le, take-append-drop}
 use lib.Seq.{set-split, drop-at, length-take-le, take-set-le, take-append-le, take-take}
-use Rattle.columns.specs.Numbers.{spellDigits, isNegative}
+use Rattle.columns.specs.Numbers.{spellDigits, isNegative, wholeFits, signedFits}
 use Rattle.columns.specs.Decimals.{spellMagnitude, spellDecimal, decimalWidth}
 use lib.IntN.{ℤ, natAbs}
+use lib.Dec.{ltb}
+use borrow.Author.Tests.{ltb-true}
+use Rattle.columns.proofs.TextLaws.{and-split}
 
 -- what stands from a place on after it is written
 drop-set : (l : List ℕ) (j x : ℕ) → j < length l → drop j (set l j x) ≡ x ∷ drop (suc j) l
@@ -90,3 +93,12 @@ module _ (s : List ℕ) (a b : ℕ) (sign : Bool) (z : ℤ) (m : ℕ) (n : lengt
   pub put-plain : sign ≡ false → (s′ : List ℕ) → s′ ≡ take 0 s ++ spellMagnitude a b m → s′ ≡ spellDecimal a b sign z
   unfolding spellDecimal
   put-plain e s′ f = rw (f, e, ← h)
+
+-- a column that a number with a sign fits is there
+pub signed-room : (w : ℕ) (z : ℤ) → signedFits w z ≡ true → 0 < w
+unfolding signedFits
+signed-room w z e = ltb-true 0 w (and-split (ltb 0 w) (cond (isNegative z) (wholeFits (w - 1) (natAbs z)) (wholeFits w (natAbs z))) e .0)
+
+-- minus and digits
+pub put-minus : (s s₁ : List ℕ) (m : ℕ) → 0 < length s → s₁ ≡ take 1 s ++ spellDigits (length s - 1) m (drop (1 + (length s - 1)) s) → set s₁ 0 45 ≡ 45 ∷ spellDigits (length s - 1) m []
+put-minus s s₁ m h e = ap (λ (l : List ℕ). set l 0 45) (put-last s s₁ 1 (length s - 1) m (omega arith) e) ∙ put-first s (spellDigits (length s - 1) m []) 45 h

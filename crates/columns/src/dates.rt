@@ -1,7 +1,10 @@
 // Dates: eight digits, day, month and year, read and written.
-use crate::numbers::{digits, put_digits};
+use crate::numbers::digits;
+use crate::numbers::put_digits;
 use crate::sets::Set;
-use crate::texts::{all_in, is_blank, write_blank};
+use crate::texts::all_in;
+use crate::texts::is_blank;
+use crate::texts::write_blank;
 ghost use mathlib.Core.Path.{_≡_};
 ghost use mathlib.Core.Bool.{true, cond, _&&_};
 ghost use Prim.Native.Nat.{_≤_};
@@ -89,7 +92,11 @@ pub fn read_date(s: &[u8]) -> Dated
         return Dated::Bad;
     }
     let d = date_in(s);
-    if is_date(d) { Dated::Filled(d) } else { Dated::Bad }
+    if is_date(d) {
+        Dated::Filled(d)
+    } else {
+        Dated::Bad
+    }
 }
 
 // Writes a date in its eight columns, from the last to the first.

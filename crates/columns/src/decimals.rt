@@ -1,6 +1,17 @@
 // Decimals in the five formats of the paper, read and written.
-use crate::numbers::{after_sign, digits, fits_whole, has_minus, in_sign, is_negative, magnitude, put_digits, Signed, Whole};
-use crate::texts::{byte, is_blank, spaces};
+use crate::numbers::Signed;
+use crate::numbers::Whole;
+use crate::numbers::after_sign;
+use crate::numbers::digits;
+use crate::numbers::fits_whole;
+use crate::numbers::has_minus;
+use crate::numbers::in_sign;
+use crate::numbers::is_negative;
+use crate::numbers::magnitude;
+use crate::numbers::put_digits;
+use crate::texts::byte;
+use crate::texts::is_blank;
+use crate::texts::spaces;
 ghost use mathlib.Core.Path.{_≡_};
 ghost use mathlib.Core.Bool.{cond, _&&_};
 ghost use mathlib.Core.List.{_++_};

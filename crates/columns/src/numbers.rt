@@ -1,13 +1,14 @@
 // Whole numbers, with a sign and without, read and written.
 use crate::sets::is_digit;
-use crate::texts::{byte, spaces};
+use crate::texts::byte;
+use crate::texts::spaces;
 ghost use mathlib.Core.Path.{_≡_};
 ghost use mathlib.Core.Bool.{cond};
 ghost use mathlib.Core.List.{[], _++_};
 ghost use Prim.Native.Nat.{_+_, _-_, _/_, _^_, _≤_, _<_};
 ghost use lib.ListN.{length, take, drop};
 ghost use lib.IntN.{natAbs};
-ghost use Rattle.columns.specs.Numbers.{leading, numberFrom, wholeDigits, wholeOf, amount, withSign, inSign, hasMinus, unsigned, signedOf, spellDigits, spellWhole, wholeFits, isNegative};
+ghost use Rattle.columns.specs.Numbers.{leading, numberFrom, wholeDigits, wholeOf, amount, withSign, inSign, hasMinus, unsigned, signedOf, spellDigits, spellWhole, wholeFits, spellSigned, signedFits, isNegative};
 
 // A whole number, read from its columns.
 pub enum Whole {
@@ -100,11 +101,7 @@ pub(crate) fn in_sign(minus: bool, w: Whole) -> Signed
 pub(crate) fn has_minus(sign: bool, t: &[u8]) -> bool
     ensures { λ r. ⌜ r ≡ hasMinus sign (now (t .entry)) ⌝ }
 {
-    if sign {
-        byte(t, 0) == b'-'
-    } else {
-        false
-    }
+    if sign { byte(t, 0) == b'-' } else { false }
 }
 
 // What stands after the sign.
@@ -202,4 +199,35 @@ pub fn magnitude(v: i64) -> u64
         return n as u64 + 1;
     }
     v as u64
+}
+
+// Whether a number and its sign have their places in w columns.
+pub fn fits_signed(w: usize, v: i64) -> bool
+    ensures { λ r. ⌜ r ≡ signedFits w v ⌝ }
+{
+    if w == 0 {
+        return false;
+    }
+    if is_negative(v) {
+        return fits_whole(w - 1, magnitude(v));
+    }
+    fits_whole(w, magnitude(v))
+}
+
+// A whole number with its sign in columns that have a place for each; in others nothing is written.
+pub fn write_signed(s: &mut [u8], v: i64) -> bool
+    ensures { λ r. ⌜ r ≡ signedFits (length (now (s .entry))) v ⌝ }
+    ensures { λ _. ⌜ now (s .exit) ≡ cond (signedFits (length (now (s .entry))) v) (spellSigned (length (now (s .entry))) v) (now (s .entry)) ⌝ }
+{
+    let n = s.len();
+    if !fits_signed(n, v) {
+        return false;
+    }
+    if is_negative(v) {
+        put_digits(s, 1, n - 1, magnitude(v));
+        s[0] = b'-';
+        return true;
+    }
+    put_whole(s, magnitude(v));
+    true
 }
