@@ -4,3 +4,4 @@ pub mod NumberLaws
 pub mod DecimalLaws
 pub mod Signs
 pub mod Spelling
+pub mod RoundTrip
