@@ -5,3 +5,4 @@ pub mod DecimalLaws
 pub mod Signs
 pub mod Spelling
 pub mod RoundTrip
+pub mod ColumnLaws
