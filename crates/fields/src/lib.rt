@@ -1,5 +1,6 @@
 // The fields that only stations have: the values that a station's columns state, each with its unit.
 pub mod distances;
+pub mod emission;
 pub mod frequencies;
 pub mod positions;
 pub mod tenths;
