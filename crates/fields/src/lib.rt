@@ -4,4 +4,5 @@ pub mod distances;
 pub mod emission;
 pub mod frequencies;
 pub mod positions;
+pub mod remarks;
 pub mod tenths;
