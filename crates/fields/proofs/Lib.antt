@@ -1,0 +1,6 @@
+pub mod AnswerLaws
+pub mod ChoiceLaws
+pub mod CountLaws
+pub mod LetterLaws
+pub mod PlaceLaws
+pub mod TrimLaws
