@@ -1,0 +1,292 @@
+// Runs column vectors: each is a letter for the kind of column, three digits for the width, a colon, the bytes and a
+// line feed. Prints for each what the library answers, and the columns that it writes of what it read.
+use columns::dates::{Dated, Day};
+use columns::decimals::Format;
+use columns::numbers::{Signed, Whole};
+use columns::sets::Set;
+use fields::positions::Located;
+
+// Writes to standard output.
+fn put(s: &[u8]) {
+    io::write_all(1, s);
+}
+
+// Prints a number with its sign.
+fn put_number(v: i64) {
+    if columns::numbers::is_negative(v) {
+        put(b"-");
+    }
+    io::print_decimal(1, columns::numbers::magnitude(v));
+}
+
+// Prints columns that were written, or that they were refused.
+fn put_columns(written: bool, s: &[u8]) {
+    if written {
+        put(b" [");
+        put(s);
+        put(b"]\n");
+    } else {
+        put(b" refused\n");
+    }
+}
+
+// Prints the answer of a test.
+fn put_test(passed: bool) {
+    if passed {
+        put(b" yes\n");
+    } else {
+        put(b" no\n");
+    }
+}
+
+// A whole number, and its spelling in columns of the same width.
+fn whole(s: &[u8]) {
+    match columns::numbers::read_whole(s) {
+        Whole::Bad => put(b" bad\n"),
+        Whole::Blank => put(b" blank\n"),
+        Whole::Filled(v) => {
+            put(b" ");
+            io::print_decimal(1, v);
+            let mut space = [0u8; 300];
+            let n = s.len();
+            if n <= 300 {
+                let written = columns::numbers::write_whole(&mut space[..n], v);
+                put_columns(written, &space[..n]);
+            }
+        }
+    }
+}
+
+// The four columns of a height.
+fn write_height(v: i64) {
+    let mut space = [0u8; 4];
+    let written = columns::numbers::write_signed(&mut space, v);
+    put_columns(written, &space);
+}
+
+// A whole number with a sign, and its spelling in four columns.
+fn signed(s: &[u8], only_written: bool) {
+    match columns::numbers::read_signed(s) {
+        Signed::Bad => put(b" bad\n"),
+        Signed::Blank => put(b" blank\n"),
+        Signed::Filled(v) => {
+            if !only_written {
+                put(b" ");
+                put_number(v);
+            }
+            write_height(v);
+        }
+    }
+}
+
+// The columns of a decimal.
+fn write_format(format: Format, v: i64) {
+    let mut space = [0u8; 16];
+    let n = columns::decimals::decimal_width(format);
+    if n <= 16 {
+        let written = columns::decimals::write_decimal(format, &mut space[..n], v);
+        put_columns(written, &space[..n]);
+    }
+}
+
+// A decimal, and its spelling.
+fn decimal(format: Format, s: &[u8]) {
+    match columns::decimals::read_decimal(format, s) {
+        Signed::Bad => put(b" bad\n"),
+        Signed::Blank => put(b" blank\n"),
+        Signed::Filled(v) => {
+            put(b" ");
+            put_number(v);
+            write_format(format, v);
+        }
+    }
+}
+
+// A typed number, written as a decimal.
+fn typed(format: Format, s: &[u8]) {
+    match columns::numbers::read_signed(s) {
+        Signed::Bad => put(b" bad\n"),
+        Signed::Blank => put(b" blank\n"),
+        Signed::Filled(v) => write_format(format, v),
+    }
+}
+
+// A date, and its spelling.
+fn date(s: &[u8]) {
+    match columns::dates::read_date(s) {
+        Dated::Bad => put(b" bad\n"),
+        Dated::Blank => put(b" blank\n"),
+        Dated::Filled(d) => {
+            put(b" ");
+            io::print_decimal(1, d.day as u64);
+            put(b" ");
+            io::print_decimal(1, d.month as u64);
+            put(b" ");
+            io::print_decimal(1, d.year as u64);
+            let mut space = [0u8; 8];
+            let written = columns::dates::write_day(&mut space, Day::Filled(d));
+            put_columns(written, &space);
+        }
+    }
+}
+
+// A position, and its spelling.
+fn position(s: &[u8]) {
+    match fields::positions::read_position(s) {
+        Located::Bad => put(b" bad\n"),
+        Located::Filled(p) => {
+            put(b" ");
+            put_number(p.east);
+            put(b" ");
+            put_number(p.north);
+            let mut space = [0u8; 15];
+            let written = fields::positions::write_position(&mut space, p);
+            put_columns(written, &space);
+        }
+    }
+}
+
+// The kinds that hold a number, a date or a position.
+fn numbers(kind: u8, s: &[u8]) -> bool {
+    match kind {
+        b'W' => whole(s),
+        b'S' => signed(s, false),
+        b's' => signed(s, true),
+        b'D' => date(s),
+        b'L' => position(s),
+        _ => return false,
+    }
+    true
+}
+
+// The five formats of decimals.
+fn decimals(kind: u8, s: &[u8]) -> bool {
+    match kind {
+        b'F' => decimal(Format::Frequency, s),
+        b'P' => decimal(Format::Power, s),
+        b'A' => decimal(Format::Azimuth, s),
+        b'E' => decimal(Format::Elevation, s),
+        b'G' => decimal(Format::Gain, s),
+        _ => return false,
+    }
+    true
+}
+
+// The same, from a typed number.
+fn typed_decimals(kind: u8, s: &[u8]) -> bool {
+    match kind {
+        b'f' => typed(Format::Frequency, s),
+        b'p' => typed(Format::Power, s),
+        b'a' => typed(Format::Azimuth, s),
+        b'e' => typed(Format::Elevation, s),
+        b'g' => typed(Format::Gain, s),
+        _ => return false,
+    }
+    true
+}
+
+// The kinds that are kept as their bytes.
+fn codes(kind: u8, s: &[u8]) -> bool {
+    match kind {
+        b'X' => put_test(fields::codes::is_reference(s)),
+        b'T' => put_test(fields::codes::is_antenna(s)),
+        b'N' => put_test(fields::codes::is_station_name(s)),
+        b'O' => put_test(fields::codes::is_country(s)),
+        b'U' => put_test(fields::codes::is_users(s)),
+        b'K' => put_test(fields::codes::is_class(s)),
+        b'V' => put_test(fields::codes::is_service(s)),
+        b'Q' => put_test(fields::codes::is_polarisation(s)),
+        _ => return false,
+    }
+    true
+}
+
+// Emissions, remarks, texts and blanks.
+fn texts(kind: u8, s: &[u8]) -> bool {
+    match kind {
+        b'M' => put_test(fields::emission::is_emission(s)),
+        b'Z' => put_test(fields::remarks::is_remarks(s)),
+        b't' => put_test(columns::texts::is_left_text(s, s.len(), Set::Text)),
+        b'm' => put_test(columns::texts::is_left_text(s, s.len(), Set::Mail)),
+        b'B' => put_test(columns::texts::is_blank(s)),
+        _ => return false,
+    }
+    true
+}
+
+// One vector: its letter, and the library's answer.
+fn answer(kind: u8, s: &[u8]) {
+    let letter = [kind];
+    put(&letter);
+    if numbers(kind, s) {
+        return;
+    }
+    if decimals(kind, s) {
+        return;
+    }
+    if typed_decimals(kind, s) {
+        return;
+    }
+    if codes(kind, s) {
+        return;
+    }
+    if texts(kind, s) {
+        return;
+    }
+    put(b" no such kind\n");
+}
+
+// The width of a vector: its three digits, 0 where they are none.
+fn width(s: &[u8]) -> usize {
+    match columns::numbers::read_whole(s) {
+        Whole::Filled(v) => {
+            if v < 1000 {
+                return v as usize;
+            }
+            0
+        }
+        Whole::Blank => 0,
+        Whole::Bad => 0,
+    }
+}
+
+// All vectors, and how many there were.
+fn run(s: &[u8]) {
+    let mut at: usize = 0;
+    let mut count: u64 = 0;
+    while at < s.len() {
+        let rest = &s[at..];
+        let used = one(rest);
+        if used == 0 {
+            put(b"cut short\n");
+            return;
+        }
+        if used > s.len() - at {
+            return;
+        }
+        at += used;
+        count += 1;
+    }
+    io::print_decimal(1, count);
+    put(b" vectors\n");
+}
+
+// The first vector of a text: answers how many bytes it takes, 0 where it is cut short.
+fn one(s: &[u8]) -> usize {
+    if s.len() < 6 {
+        return 0;
+    }
+    let w = width(&s[1..4]);
+    let e = 5 + w;
+    if s.len() <= e {
+        return 0;
+    }
+    answer(s[0], &s[5..e]);
+    e + 1
+}
+
+fn main() {
+    let mut space = io::large_buffer();
+    let n = io::read_full(0, &mut space);
+    run(&space[..n]);
+}
