@@ -1,7 +1,7 @@
 -- A field whose every place has a rule of its own, taken apart into runs of one set, literals and single places, from place i on.
 -- Assumes nothing.
 use mathlib.Core.Path.{_≡_, refl, sym, ap, _∙_}
-use mathlib.Core.Bool.{Bool, true, false, _&&_, and-assoc, false≢true}
+use mathlib.Core.Bool.{Bool, true, false, _&&_, and-assoc}
 use mathlib.Core.List.{List, [], _∷_, _++_}
 use Prim.Native.Nat.{ℕ, zero, suc, _+_, _-_, _≤_, _<_}
 use Prim.Native.String.{String}
@@ -9,24 +9,19 @@ use Prim.Native.String as text
 use native.Mathlib.Omega.{arith}
 use native.Mathlib.Numerals.{add-one}
 use lib.ListN.{length, getD, take, drop, replicate, length-drop, length-replicate, drop-of-length-le}
+use borrow.Author.Tests.{eq-eqb}
 use lib.Seq.{drop-cons, drop-drop, take-all, length-take-le}
 use Rattle.columns.specs.Sets.{is}
 use Rattle.columns.specs.Texts.{bytes, every, each, exactly, same}
-use Rattle.columns.proofs.TextLaws.{and-split}
-
--- as many bytes as tests
-each-length : (ts : List (ℕ → Bool)) (p : List ℕ) → each ts p ≡ true → length p ≡ length ts
-unfolding each
-each-length [] [] e = refl
-each-length [] (c ∷ p) e = absurd (false≢true e)
-each-length (t ∷ ts) [] e = absurd (false≢true e)
-each-length (t ∷ ts) (c ∷ p) e = ap suc (each-length ts p (and-split (t c) (each ts p) e .1))
+use Rattle.columns.proofs.TextLaws.{from-on}
+use Rattle.columns.proofs.TextLaws as texts
+use Rattle.columns.proofs.ColumnLaws.{each-sized}
 
 -- a text of another length fails
 pub not-each : (ts : List (ℕ → Bool)) (p : List ℕ) → (length p ≡ length ts → ⊥) → each ts p ≡ false
 not-each ts p n = by (each ts p) refl where
   by : (r : Bool) → each ts p ≡ r → r ≡ false
-  by true e = absurd (n (each-length ts p e))
+  by true e = absurd (n (each-sized ts p e))
   by false e = refl
 
 -- the tests of two parts, each on its own
@@ -38,11 +33,7 @@ each-append (x ∷ xs) ys (c ∷ p) = ap (λ (b : Bool). x c && b) (each-append 
 
 -- one test for every byte
 each-replicate : (k : ℕ) (t : ℕ → Bool) (p : List ℕ) → length p ≡ k → each (replicate k t) p ≡ every t p
-unfolding each every
-each-replicate zero t [] e = refl
-each-replicate zero t (c ∷ p) e = absurd (omega arith)
-each-replicate (suc k) t [] e = absurd (omega arith)
-each-replicate (suc k) t (c ∷ p) e = ap (λ (b : Bool). t c && b) (each-replicate k t p (omega arith))
+each-replicate k t p e = texts.each-replicate k t p ∙ rw (eq-eqb (length p) k e)
 
 -- the tests of a literal
 each-exactly : (x : String) (p : List ℕ) → each (exactly x) p ≡ same (bytes x) p
@@ -57,10 +48,6 @@ exactly-length text.[] = refl
 exactly-length (text._∷_ x s) = ap suc (exactly-length s)
 
 module _ (s : List ℕ) (i : ℕ) where
-  -- a part that goes to the end
-  pub part-rest : take (length s - i) (drop i s) ≡ drop i s
-  part-rest = take-all (length s - i) (drop i s) (simp length-drop (omega arith))
-
   -- k places of a set stand first
   pub each-run : (k : ℕ) (t : ℕ → Bool) (ys : List (ℕ → Bool)) → i + k ≤ length s → each (replicate k t ++ ys) (drop i s) ≡ (every t (take k (drop i s)) && each ys (drop (i + k) s))
   each-run k t ys h =

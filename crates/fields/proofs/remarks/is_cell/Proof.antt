@@ -1,6 +1,6 @@
 -- `fields::remarks::is_cell` meets its contract: the rest after the spaces is tested. Assumes nothing.
 use Rattle.fields.specs.Remarks.{cellGood}
-use Rattle.fields.proofs.PlaceLaws.{part-rest}
+use Rattle.columns.proofs.TextLaws.{from-on}
 use borrow.Author.Needs.{needs}
 use Rattle.fields.proofs.remarks.is_cell.Statement.{statement}
 use Rattle.fields.proofs.remarks.is_cell.Tie as tie
@@ -22,7 +22,7 @@ all-in-requires c κs = search needs
 
 returns : tie.Need-returns
 unfolding cellGood
-returns c = rw (c .before .before .spaces .ensures .1) (rw part-rest at (c .all-in .ensures))
+returns c = rw (c .before .before .spaces .ensures .1) (rw from-on at (c .all-in .ensures))
 
 pub is-cell-spec : {M : Type 1} → statement M
 is-cell-spec =

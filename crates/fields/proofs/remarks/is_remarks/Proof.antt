@@ -2,7 +2,7 @@
 use borrow.Author.Tests.{eq-eqb, ne-eqb}
 use Rattle.fields.specs.Remarks.{remarksGood}
 use Rattle.fields.proofs.AnswerLaws.{told, passed, failed}
-use Rattle.fields.proofs.PlaceLaws.{part-rest}
+use Rattle.columns.proofs.TextLaws.{from-on}
 use borrow.Author.Needs.{needs}
 use Rattle.fields.proofs.remarks.is_remarks.Statement.{statement}
 use Rattle.fields.proofs.remarks.is_remarks.Tie as tie
@@ -88,7 +88,7 @@ returns-6 c =
     let cell = installation .before .before .before in
     let generation = cell .before .before .before in
     let filled = generation .before .before .before in
-    rw (eq-eqb _ _ (filled .before .before .if1 .left), told (filled .before .is-blank .ensures) (filled .if2 .left), passed (generation .before .is-generation .ensures) (generation .if3 .left), passed (cell .before .is-cell .ensures) (cell .if4 .left), passed (installation .before .is-installation .ensures) (installation .if5 .left)) (rw part-rest at (c .all-in .ensures))
+    rw (eq-eqb _ _ (filled .before .before .if1 .left), told (filled .before .is-blank .ensures) (filled .if2 .left), passed (generation .before .is-generation .ensures) (generation .if3 .left), passed (cell .before .is-cell .ensures) (cell .if4 .left), passed (installation .before .is-installation .ensures) (installation .if5 .left)) (rw from-on at (c .all-in .ensures))
 
 pub is-remarks-spec : {M : Type 1} → statement M
 is-remarks-spec =
