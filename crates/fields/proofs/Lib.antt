@@ -4,3 +4,4 @@ pub mod CountLaws
 pub mod LetterLaws
 pub mod PlaceLaws
 pub mod TrimLaws
+pub mod FieldColumns
