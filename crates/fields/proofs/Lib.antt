@@ -1,2 +1,3 @@
 pub mod SignedLaws
 pub mod TenthsLaws
+pub mod FrequencyLaws
