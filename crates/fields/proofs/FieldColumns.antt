@@ -14,8 +14,8 @@ use lib.IntN.{ℤ, pos, negsuc, natAbs}
 use borrow.Author.Tests.{eq-eqb, ltb-true, lt-ltb, leb-true, le-leb}
 use Rattle.columns.specs.Sets.{is, among}
 use Rattle.columns.specs.Texts.{head, skip, blank, each}
-use Rattle.columns.specs.Numbers.{wholeOf, amount, wholeFilled, passes, signedOf, isNegative, wholeFits, signedFits, spellWhole, spellSigned}
-use Rattle.columns.specs.Decimals.{decimalOf, decimalFits, decimalWidth, spellDecimal}
+use Rattle.columns.specs.Numbers.{wholeDigits, wholeOf, amount, wholeFilled, passes, signedOf, isNegative, wholeFits, signedFits, spellWhole, spellSigned}
+use Rattle.columns.specs.Decimals.{magnitudeOf, decimalOf, decimalFits, decimalWidth, spellDecimal}
 use Rattle.columns.specs.declared.numbers.Signed.{Signed}
 use Rattle.columns.specs.declared.numbers.Signed.the-variants as signed
 use Rattle.columns.proofs.TextLaws.{and-split, and-both}
@@ -39,7 +39,7 @@ use Rattle.fields.specs.declared.distances.Height.the-variants as height
 
 spaces-no-decimal : (a b : ℕ) (sign : Bool) (n : ℕ) → decimalOf a b sign (replicate n 32) ≡ signed.Blank
 unfolding decimalOf
-spaces-no-decimal a b sign n = number-of-spaces sign _ n
+spaces-no-decimal a b sign n = number-of-spaces sign (magnitudeOf a b) n
 
 module _ (a b : ℕ) (sign : Bool) (range : ℤ → Bool) (one : 1 ≤ b) where
   tenths-wide : (v : Tenths) → length (spellTenths a b sign v) ≡ decimalWidth a b sign
@@ -108,7 +108,7 @@ not-blank : (a b : ℕ) (sign : Bool) (p : List ℕ) (z : ℤ) → decimalOf a b
 unfolding decimalOf
 not-blank a b sign p z e = by (blank p) refl where
   by : (r : Bool) → blank p ≡ r → r ≡ false
-  by true q = ?h
+  by true q = let w : signed.Blank ≡ signed.Filled z = rw q at e in cc
   by false q = refl
 
 unit-back : (u : Hertz) → (each (among "kMG" ∷ []) (unitLetter u ∷ []) ≡ true) × (unitOf (unitLetter u) ≡ u)
@@ -185,7 +185,7 @@ height-places (negsuc n) e = lt-ltb (suc n) (10 ^ 3) (omega (arith, leb-true (su
 
 spaces-no-height : signedOf (replicate 4 32) ≡ signed.Blank
 unfolding signedOf
-spaces-no-height = number-of-spaces true _ 4
+spaces-no-height = number-of-spaces true wholeDigits 4
 
 height-trip : (z : ℤ) → heightRange z ≡ true → signedOf (spellSigned 4 z) ≡ signed.Filled z
 height-trip z e = signed-trip 4 z (omega arith) (height-places z e)

@@ -1,7 +1,10 @@
 pub mod AnswerLaws
 pub mod ChoiceLaws
 pub mod CountLaws
+pub mod FieldColumns
+pub mod FrequencyLaws
 pub mod LetterLaws
 pub mod PlaceLaws
+pub mod SignedLaws
+pub mod TenthsLaws
 pub mod TrimLaws
-pub mod FieldColumns

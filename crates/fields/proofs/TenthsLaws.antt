@@ -1,0 +1,26 @@
+-- Tenths that stand in their columns, over the format.
+-- Assumes nothing.
+use mathlib.Core.Path.{_≡_}
+use mathlib.Core.Bool.{Bool, true, false}
+use lib.IntN.{ℤ}
+use Rattle.columns.specs.Decimals.{digitsBefore, digitsAfter, maySign, formatFits}
+use Rattle.columns.specs.declared.decimals.Format.{Format}
+use Rattle.columns.proofs.TextLaws.{and-split}
+use Rattle.fields.specs.declared.tenths.Tenths.{Tenths}
+use Rattle.fields.specs.declared.tenths.Tenths.the-variants as tenths
+use Rattle.fields.specs.Tenths.{rangeOf, tenthsFit}
+
+-- a filled value does not fit where its digits lack their places,
+pub fit-not : (f : Format) (z : ℤ) {v : Tenths} → v ≡ tenths.Filled z → formatFits f z ≡ false → false ≡ tenthsFit (digitsBefore f) (digitsAfter f) (maySign f) (rangeOf f) v
+unfolding tenthsFit
+fit-not f z e h = rw (e, h)
+
+-- fits by its range where they have them,
+pub fit-range : (f : Format) (z : ℤ) {v : Tenths} {r : Bool} → v ≡ tenths.Filled z → formatFits f z ≡ true → r ≡ rangeOf f z → r ≡ tenthsFit (digitsBefore f) (digitsAfter f) (maySign f) (rangeOf f) v
+unfolding tenthsFit
+fit-range f z e h g = rw (e, h) g
+
+-- and where it fits they have them
+pub digits-fit : (f : Format) (z : ℤ) {v : Tenths} → v ≡ tenths.Filled z → tenthsFit (digitsBefore f) (digitsAfter f) (maySign f) (rangeOf f) v ≡ true → formatFits f z ≡ true
+unfolding tenthsFit
+digits-fit f z e h = and-split (formatFits f z) (rangeOf f z) (rw e at h) .0
