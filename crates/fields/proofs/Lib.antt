@@ -8,3 +8,4 @@ pub mod PlaceLaws
 pub mod SignedLaws
 pub mod TenthsLaws
 pub mod TrimLaws
+pub mod PositionColumn

@@ -35,7 +35,7 @@ nameGood p = each (replicate 4 isDigit ++ (exactly "_" ++ replicate 15 isName)) 
 
 -- 4B: 1 to 3 letters A-Z, then spaces.
 unfoldable pub countryGood : List ℕ → Bool
-countryGood p = sized 3 p && not (blank p) && every isUpper (trimmed p)
+countryGood p = sized 3 p && (not (blank p) && every isUpper (trimmed p))
 
 -- 8B2, what the power refers to: E or I.
 unfoldable pub isBasis : ℕ → Bool

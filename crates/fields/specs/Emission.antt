@@ -2,10 +2,10 @@
 use Prim.Native.Nat.{ℕ}
 use mathlib.Core.Bool.{Bool, not, _&&_, _||_}
 use mathlib.Core.List.{List}
-use lib.ListN.{getD, take, drop}
+use lib.ListN.{getD, take}
 use lib.Dec.{eqb}
 use Rattle.columns.specs.Sets.{is, isDigit, among}
-use Rattle.columns.specs.Texts.{head, blank, howMany, sized}
+use Rattle.columns.specs.Texts.{head, howMany, sized}
 
 -- Four bandwidth places hold three digits and one of H, K, M, G, the first place neither 0, K, M nor G.
 unfoldable pub bandwidthGood : List ℕ → Bool
@@ -37,8 +37,8 @@ detailGood x y = (is " " x && is " " y) || (isDetail x && (is " " y || isMultipl
 unfoldable pub emissionGood : List ℕ → Bool
 emissionGood p =
     sized 9 p
-    && bandwidthGood (take 4 p)
+    && (bandwidthGood (take 4 p)
     && isModulation (getD p 4 0)
     && isSignal (getD p 5 0)
     && isInformation (getD p 6 0)
-    && detailGood (getD p 7 0) (getD p 8 0)
+    && detailGood (getD p 7 0) (getD p 8 0))
