@@ -1,1 +1,3 @@
+pub mod FieldLaws
+pub mod RuleLaws
 pub mod Tables

@@ -1,0 +1,44 @@
+-- Lists of rules: all hold exactly where none is broken, over any lists.
+-- Assumes nothing.
+use mathlib.Core.Path.{_≡_, refl, sym, ap, _∙_}
+use mathlib.Core.Bool.{Bool, true, false, cond}
+use mathlib.Core.List.{List, [], _∷_, _++_}
+use Prim.Native.Nat.{ℕ, zero, suc, _+_, _-_}
+use native.Mathlib.Omega.{arith}
+use native.Mathlib.Nat.{add-zero}
+use lib.ListN.{length, getD}
+use Rattle.filing.specs.Rules.{All, firstBroken}
+
+-- where no code is given, all hold,
+pub all-hold : (k : ℕ) (rules : List Bool) → firstBroken (suc k) rules ≡ 0 → All rules
+unfolding firstBroken
+all-hold k [] e = tt
+all-hold k (true ∷ rules) e = (refl, all-hold (suc k) rules e)
+all-hold k (false ∷ rules) e = absurd (omega arith)
+
+-- and where all hold, none is given
+pub none-broken : (k : ℕ) (rules : List Bool) → All rules → firstBroken k rules ≡ 0
+unfolding firstBroken
+none-broken k [] h = refl
+none-broken k (x ∷ rules) h = rw (h .0) (none-broken (suc k) rules (h .1))
+
+-- the rule of code k
+pub rule : (rules : List Bool) → All rules → (k : ℕ) → getD rules (k - 1) true ≡ true
+rule rules h k = at-place rules h (k - 1) where
+  at-place : (rules : List Bool) → All rules → (i : ℕ) → getD rules i true ≡ true
+  at-place [] h i = refl
+  at-place (x ∷ rules) h zero = h .0
+  at-place (x ∷ rules) h (suc i) = at-place rules (h .1) i
+
+-- rules of two lists
+pub all-append : (xs ys : List Bool) → All xs → All ys → All (xs ++ ys)
+all-append [] ys h g = g
+all-append (x ∷ xs) ys h g = (h .0, all-append xs ys (h .1) g)
+
+pub all-front : (xs ys : List Bool) → All (xs ++ ys) → All xs
+all-front [] ys h = tt
+all-front (x ∷ xs) ys h = (h .0, all-front xs ys (h .1))
+
+pub all-back : (xs ys : List Bool) → All (xs ++ ys) → All ys
+all-back [] ys h = h
+all-back (x ∷ xs) ys h = all-back xs ys (h .1)
