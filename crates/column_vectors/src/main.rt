@@ -1,8 +1,10 @@
 // Runs column vectors: each is a letter for the kind of column, three digits for the width, a colon, the bytes and a
 // line feed. Prints for each what the library answers, and the columns that it writes of what it read.
-use columns::dates::{Dated, Day};
+use columns::dates::Dated;
+use columns::dates::Day;
 use columns::decimals::Format;
-use columns::numbers::{Signed, Whole};
+use columns::numbers::Signed;
+use columns::numbers::Whole;
 use columns::sets::Set;
 use fields::positions::Located;
 

@@ -151,9 +151,9 @@ pub decimal-back : (a b : ℕ) (sign : Bool) (z : ℤ) → 1 ≤ b → decimalFi
 decimal-back a b sign z one e =
     let h = and-split (ltb (natAbs z) (10 ^ (a + b))) (sign || not (isNegative z)) e in
     decimal-trip a b sign z one (ltb-true (natAbs z) (10 ^ (a + b)) (h .0)) (sign-place sign z (h .1)) where
-  sign-place : (sign : Bool) (z : ℤ) → (sign || not (isNegative z)) ≡ true → isNegative z ≡ true → sign ≡ true
-  sign-place true z e f = refl
-  sign-place false z e f = absurd (false≢true (rw f at e))
+      sign-place : (sign : Bool) (z : ℤ) → (sign || not (isNegative z)) ≡ true → isNegative z ≡ true → sign ≡ true
+      sign-place true z e f = refl
+      sign-place false z e f = absurd (false≢true (rw f at e))
 
 -- spaces are blank
 pub skip-spaces : (n : ℕ) → skip (replicate n 32) ≡ []
@@ -210,8 +210,17 @@ date-in-trip d e =
     let rest : drop 2 (day ++ (month ++ year)) ≡ month ++ year = drop-at day (month ++ year) 2 (whole-length 2 (d .day)) in
     let last : drop 4 (day ++ (month ++ year)) ≡ year = sym (drop-drop 2 2 (day ++ (month ++ year))) ∙ ap (drop 2) rest ∙ drop-at month year 2 (whole-length 2 (d .month)) in
     let y : take 4 year ≡ year = take-all 4 year (omega (arith, whole-length 4 (d .year))) in
-    rw (date-parts d, rest, last, take-at day (month ++ year) 2 (whole-length 2 (d .day)), take-at month year 2 (whole-length 2 (d .month)), y,
-      says 2 (d .day) (g .day-two), says 2 (d .month) (g .month-two), says 4 (d .year) (g .year-four))
+    rw (
+      date-parts d,
+      rest,
+      last,
+      take-at day (month ++ year) 2 (whole-length 2 (d .day)),
+      take-at month year 2 (whole-length 2 (d .month)),
+      y,
+      says 2 (d .day) (g .day-two),
+      says 2 (d .month) (g .month-two),
+      says 4 (d .year) (g .year-four),
+    )
 
 -- it is eight digits
 date-spelled : (d : Date) → each (replicate 8 isDigit) (spellDate d) ≡ true
@@ -220,7 +229,7 @@ date-spelled d =
     let n : length (spellDate d) ≡ 8 = simp spelled-length in
     each-replicate 8 isDigit (spellDate d)
     ∙ and-both (eqb (length (spellDate d)) 8) (every isDigit (spellDate d)) (eq-eqb (length (spellDate d)) 8 n)
-      (spelled-digits 2 (d .day) (spellDigits 2 (d .month) (spellDigits 4 (d .year) [])) (spelled-digits 2 (d .month) (spellDigits 4 (d .year) []) (spelled-digits 4 (d .year) [] (unfold every in refl))))
+    (spelled-digits 2 (d .day) (spellDigits 2 (d .month) (spellDigits 4 (d .year) [])) (spelled-digits 2 (d .month) (spellDigits 4 (d .year) []) (spelled-digits 4 (d .year) [] (unfold every in refl))))
 
 -- and not blank
 digits-filled : (p : List ℕ) → every isDigit p ≡ true → 1 ≤ length p → blank p ≡ false

@@ -129,9 +129,9 @@ signed-trip w (negsuc n) few e =
     let f = and-split (ltb 0 w) (ltb (suc n) (10 ^ (w - 1))) e in
     let h : suc n < 10 ^ (w - 1) = ltb-true (suc n) (10 ^ (w - 1)) (f .1) in
     minus-trip wholeDigits (spellWhole (w - 1) (suc n)) (suc n) (whole-digits-trip (w - 1) (suc n) (two (w - 1) n h) (omega arith) h) where
-  two : (k n : ℕ) → suc n < 10 ^ k → 1 ≤ k
-  two zero n h = absurd (omega arith)
-  two (suc k) n h = omega arith
+      two : (k n : ℕ) → suc n < 10 ^ k → 1 ≤ k
+      two zero n h = absurd (omega arith)
+      two (suc k) n h = omega arith
 
 -- decimals: the magnitude
 magnitude-trip : (a b m : ℕ) → 1 ≤ b → m < 10 ^ (a + b) → magnitudeOf a b (spellMagnitude a b m) ≡ whole.Filled m

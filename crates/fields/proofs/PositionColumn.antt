@@ -116,8 +116,18 @@ module _ (d degrees : ℕ) (plus minus : Char) (letters : String) (h : Half d de
     arc-kept : arcGood d letters degrees (spellArc d plus minus z) ≡ true
     unfolding arcGood
     arc-kept =
-        rw (degrees-say, minutes-say, seconds-say, letter-at d plus minus z, letter-known, arc-seconds,
-          le-leb (natAbs z / 3600) degrees (omega arith), le-leb (natAbs z / 60 % 60) 59 (omega arith), le-leb (natAbs z % 60) 59 (omega arith), le-leb (natAbs z) (3600 * degrees) l)
+        rw (
+          degrees-say,
+          minutes-say,
+          seconds-say,
+          letter-at d plus minus z,
+          letter-known,
+          arc-seconds,
+          le-leb (natAbs z / 3600) degrees (omega arith),
+          le-leb (natAbs z / 60 % 60) 59 (omega arith),
+          le-leb (natAbs z % 60) 59 (omega arith),
+          le-leb (natAbs z) (3600 * degrees) l,
+        )
 
     arc-back : arcOf d minus (spellArc d plus minus z) ≡ z
     unfolding arcOf
@@ -133,9 +143,9 @@ module _ (d degrees : ℕ) (plus minus : Char) (letters : String) (h : Half d de
       let n = arcSeconds d p in
       let most : n ≤ 3600 * degrees = leb-true n (3600 * degrees) (and-split (wholeThere degrees 0 d p && among letters (getD p d 0) && wholeThere 59 (d + 1) 2 p && wholeThere 59 (d + 3) 2 p) (leb n (3600 * degrees)) e .1) in
       rw (natAbs-with (is minus (getD p d 0)) n) most where
-    natAbs-with : (b : Bool) (n : ℕ) → natAbs (withSign b n) ≡ n
-    natAbs-with true n = natAbs-neg (pos n)
-    natAbs-with false n = refl
+        natAbs-with : (b : Bool) (n : ℕ) → natAbs (withSign b n) ≡ n
+        natAbs-with true n = natAbs-neg (pos n)
+        natAbs-with false n = refl
 
 east : Half 3 180 "E" "W" "EW"
 unfolding among
