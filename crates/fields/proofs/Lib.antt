@@ -1,3 +1,4 @@
 pub mod Bits
 pub mod Writing
 pub mod DistanceLaws
+pub mod ArcLaws
