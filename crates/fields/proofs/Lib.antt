@@ -1,11 +1,15 @@
 pub mod AnswerLaws
+pub mod ArcLaws
+pub mod Bits
 pub mod ChoiceLaws
 pub mod CountLaws
+pub mod DistanceLaws
 pub mod FieldColumns
 pub mod FrequencyLaws
 pub mod LetterLaws
 pub mod PlaceLaws
+pub mod PositionColumn
 pub mod SignedLaws
 pub mod TenthsLaws
 pub mod TrimLaws
-pub mod PositionColumn
+pub mod Writing
