@@ -9,7 +9,8 @@ use lib.IntN.{ℤ, pos, negsuc, negℤ, natAbs, _+ℤ_, +ℤ-one}
 use lib.Dec.{T, lit<}
 use lib.Signed.{ltZ, nonNeg, mag}
 use mir.Syntax.{w64}
-use mir.Val.{SFits}
+use mir.Val.{SFits, toZ, ofZ}
+use mir.Facts.{toZ-ofZ}
 use borrow.Author.Tests.{le-ltb}
 use Rattle.columns.specs.Numbers.{isNegative}
 
@@ -49,3 +50,7 @@ up-one (negsuc (suc n)) e = +ℤ-one (negsuc (suc n))
 pub mag-one : (z : ℤ) → isNegative z ≡ true → mag z + 1 ≡ natAbs z
 mag-one (pos n) e = absurd (false≢true e)
 mag-one (negsuc n) e = add-one n
+
+-- a number that is in range is read back from its bits
+pub in-bits : (z : ℤ) → mag z < 2 ^ 63 → toZ w64 (ofZ w64 z) ≡ z
+in-bits z h = toZ-ofZ {w = w64} {z = z} (record { sfits = h })

@@ -19,6 +19,7 @@ use Rattle.columns.specs.declared.numbers.Whole.{Whole}
 use Rattle.columns.proofs.TextLaws.{and-split}
 use Rattle.columns.proofs.Spelling.{set-before}
 use Rattle.fields.specs.Positions.{wholeThere, arcSeconds, arcGood, arcOf}
+use Rattle.columns.proofs.RoundTrip.{spelled-front}
 
 -- a number that was read and passed is at most the given one
 pub up-to : (w : Whole) (most : ℕ) → (wholeFilled w && leb (amount w) most) ≡ true → amount w ≤ most
@@ -44,14 +45,6 @@ module _ (d : ℕ) (p : List ℕ) {g m s : Whole} {c : ℕ} (h : (g ≡ wholeOf 
   arc-few letters degrees e l =
       let t = and-split (wholeThere degrees 0 d p && among letters (getD p d 0) && wholeThere 59 (d + 1) 2 p && wholeThere 59 (d + 3) 2 p) (leb (arcSeconds d p) (3600 * degrees)) e in
       rw (h .0, h .2, h .3) (omega (arith, leb-true (arcSeconds d p) (3600 * degrees) (t .1)))
-
--- digits that are spelled in front of a text
-spelled-front : (k m : ℕ) (t : List ℕ) → spellDigits k m t ≡ spellDigits k m [] ++ t
-unfolding spellDigits
-spelled-front zero m t = refl
-spelled-front (suc k) m t =
-    let d = 48 + m % 10 in
-    spelled-front k (m / 10) (d ∷ t) ∙ sym (append-assoc (spellDigits k (m / 10) []) (d ∷ []) t) ∙ ap (λ (l : List ℕ). l ++ t) (sym (spelled-front k (m / 10) (d ∷ [])))
 
 -- a number written in a part, in front of what stands from the part's end on
 pub part-before : (s s₁ t y : List ℕ) (at e v : ℕ) → at ≤ e → e ≤ length s → s₁ ≡ take e s ++ t → y ≡ spellWhole (length (midOf at (e - at) s₁)) v

@@ -1,6 +1,5 @@
 pub mod AnswerLaws
 pub mod ArcLaws
-pub mod Bits
 pub mod ChoiceLaws
 pub mod CountLaws
 pub mod DistanceLaws

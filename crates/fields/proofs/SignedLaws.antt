@@ -9,16 +9,12 @@ use lib.IntN.{ℤ}
 use lib.Signed.{mag}
 use mir.Syntax.{w64}
 use mir.Val.{toZ, ofZ}
-use mir.Facts.{toZ-ofZ}
 use borrow.Author.Tests.{eq-eqb}
 use Rattle.columns.specs.Texts.{sized}
 use Rattle.columns.specs.Decimals.{formatWidth, formatFits, spellFormat}
 use Rattle.columns.specs.declared.decimals.Format.{Format}
+use Rattle.columns.proofs.Signs.{in-bits}
 use Rattle.columns.proofs.TextLaws.{and-both}
-
--- a number of 64 bits is the number that its bits say
-pub same-number : (z : ℤ) → mag z < 2 ^ 63 → toZ w64 (ofZ w64 z) ≡ z
-same-number z h = toZ-ofZ {w = w64} {z = z} (record { sfits = h })
 
 -- what a writer leaves where its test passes
 written : {A : Type 0} {t : Bool} {s x : A} (y : A) → t ≡ true → s ≡ cond t x y → s ≡ x
@@ -27,4 +23,4 @@ written y e h = rw e at h
 -- in columns of its format's width, a decimal whose digits have their places is spelled
 pub decimal-written : (f : Format) (z : ℤ) (s : List ℕ) {x : List ℕ} → mag z < 2 ^ 63 → length s ≡ formatWidth f → formatFits f z ≡ true
     → (let v = toZ w64 (ofZ w64 z) in x ≡ cond (sized (formatWidth f) s && formatFits f v) (spellFormat f v) s) → x ≡ spellFormat f z
-decimal-written f z s h l e g = written s (and-both (sized (formatWidth f) s) (formatFits f z) (eq-eqb _ _ l) e) (rw (same-number z h) at g)
+decimal-written f z s h l e g = written s (and-both (sized (formatWidth f) s) (formatFits f z) (eq-eqb _ _ l) e) (rw (in-bits z h) at g)

@@ -2,7 +2,7 @@
 use mathlib.Core.Path.{_≡_, _∙_}
 use Rattle.columns.specs.Numbers.{isNegative}
 use Rattle.fields.specs.Distances.{groundFits}
-use Rattle.fields.proofs.Bits.{in-bits}
+use Rattle.columns.proofs.Signs.{in-bits}
 use borrow.Author.Needs.{needs}
 use Rattle.fields.proofs.distances.fits_ground.Statement.{statement}
 use Rattle.fields.proofs.distances.fits_ground.Tie as tie

@@ -1,7 +1,7 @@
 -- `fields::distances::fits_height` meets its contract: the range is that of a number with a sign in four columns. Assumes nothing.
 use mathlib.Core.Path.{sym, ap, _∙_}
 use Rattle.fields.specs.Distances.{heightFits}
-use Rattle.fields.proofs.Bits.{in-bits}
+use Rattle.columns.proofs.Signs.{in-bits}
 use Rattle.fields.proofs.DistanceLaws.{in-four}
 use borrow.Author.Needs.{needs}
 use Rattle.fields.proofs.distances.fits_height.Statement.{statement}

@@ -2,7 +2,7 @@
 use mathlib.Core.Path.{sym, ap, _∙_}
 use Rattle.columns.specs.Numbers.{passes}
 use Rattle.fields.specs.Distances.{heightRange, heightGood}
-use Rattle.fields.proofs.Bits.{in-bits}
+use Rattle.columns.proofs.Signs.{in-bits}
 use Rattle.fields.proofs.DistanceLaws.{in-four}
 use borrow.Author.Needs.{needs}
 use Rattle.fields.proofs.distances.is_height.Statement.{statement}

@@ -1,7 +1,7 @@
 -- `fields::distances::read_height` meets its contract, case by case. Assumes nothing.
 use mathlib.Core.Path.{sym, ap, _∙_}
 use Rattle.fields.specs.Distances.{inMetres, heightOf}
-use Rattle.fields.proofs.Bits.{in-bits}
+use Rattle.columns.proofs.Signs.{in-bits}
 use borrow.Author.Needs.{needs}
 use Rattle.fields.proofs.distances.read_height.Statement.{statement}
 use Rattle.fields.proofs.distances.read_height.Tie as tie

@@ -6,7 +6,7 @@ use Rattle.columns.specs.Texts.{sized}
 use Rattle.fields.specs.Distances.{spellGround}
 use Rattle.columns.proofs.TextLaws.{kept, wrote}
 use Rattle.fields.proofs.Writing.{refused, passed}
-use Rattle.fields.proofs.Bits.{in-bits}
+use Rattle.columns.proofs.Signs.{in-bits}
 use borrow.Author.Needs.{needs}
 use Rattle.fields.proofs.distances.write_ground.Statement.{statement}
 use Rattle.fields.proofs.distances.write_ground.Tie as tie

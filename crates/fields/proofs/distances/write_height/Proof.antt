@@ -5,7 +5,7 @@ use lib.ListN.{replicate}
 use borrow.Author.Tests.{eq-eqb, ne-eqb}
 use Rattle.fields.specs.Distances.{heightFits, spellHeight}
 use Rattle.columns.proofs.TextLaws.{kept, wrote, and-both}
-use Rattle.fields.proofs.Bits.{in-bits}
+use Rattle.columns.proofs.Signs.{in-bits}
 use Rattle.fields.proofs.DistanceLaws.{in-four}
 use borrow.Author.Needs.{needs}
 use Rattle.fields.proofs.distances.write_height.Statement.{statement}

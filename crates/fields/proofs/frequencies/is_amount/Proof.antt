@@ -2,7 +2,7 @@
 use mathlib.Core.Path.{sym, ap, _∙_}
 use Rattle.columns.specs.Numbers.{passes}
 use Rattle.fields.specs.Frequencies.{aboveZero, amountGood}
-use Rattle.fields.proofs.SignedLaws.{same-number}
+use Rattle.columns.proofs.Signs.{in-bits}
 use borrow.Author.Needs.{needs}
 use Rattle.fields.proofs.frequencies.is_amount.Statement.{statement}
 use Rattle.fields.proofs.frequencies.is_amount.Tie as tie
@@ -34,7 +34,7 @@ returns-3 : tie.Need-returns-3
 unfolding amountGood
 returns-3 c =
     let k = c .before in
-    rw (c .magnitude .ensures, same-number _ (k .known-told .given .0 .1))
+    rw (c .magnitude .ensures, in-bits _ (k .known-told .given .0 .1))
     (sym (ap (passes aboveZero) (sym (k .before .before .before .read-decimal .ensures) ∙ k .before .v .given .1)))
 
 pub is-amount-spec : {M : Type 1} → statement M

@@ -4,7 +4,7 @@ use Rattle.columns.specs.Texts.{head}
 use Rattle.columns.specs.declared.numbers.Signed.{Signed}
 use denote.Ref.{now}
 use Rattle.fields.specs.Frequencies.{unitOf, inUnit, frequencyOf}
-use Rattle.fields.proofs.SignedLaws.{same-number}
+use Rattle.columns.proofs.Signs.{in-bits}
 use borrow.Author.Needs.{needs}
 use Rattle.fields.proofs.frequencies.read_frequency.Statement.{statement}
 use Rattle.fields.proofs.frequencies.read_frequency.Tie as tie
@@ -44,7 +44,7 @@ returns-3 c =
     let m = c .before .before in
     let k = m .before in
     let r = k .before .before .before in
-    rw (m .magnitude .ensures, same-number _ (k .known-told .given .0 .1), c .unit-of .ensures, c .before .byte .ensures)
+    rw (m .magnitude .ensures, in-bits _ (k .known-told .given .0 .1), c .unit-of .ensures, c .before .byte .ensures)
     (sym (ap (λ (a : Signed). inUnit a (unitOf (head (now (r .before .before .before .args .q))))) (sym (r .read-decimal .ensures) ∙ k .before .v .given .1)))
 
 pub read-frequency-spec : {M : Type 1} → statement M

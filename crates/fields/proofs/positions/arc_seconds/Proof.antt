@@ -1,6 +1,6 @@
 -- `fields::positions::arc_seconds` meets its contract: the sign is told by the letter. Assumes nothing.
 use mathlib.Core.Path.{_∙_}
-use Rattle.fields.proofs.Bits.{in-bits}
+use Rattle.columns.proofs.Signs.{in-bits}
 use borrow.Author.Needs.{needs}
 use Rattle.fields.proofs.positions.arc_seconds.Statement.{statement}
 use Rattle.fields.proofs.positions.arc_seconds.Tie as tie

@@ -3,7 +3,7 @@ use mathlib.Core.Path.{_≡_}
 use lib.IntN.{natAbs}
 use borrow.Author.Tests.{le-leb, lt-leb}
 use Rattle.fields.specs.Positions.{positionFits}
-use Rattle.fields.proofs.Bits.{in-bits}
+use Rattle.columns.proofs.Signs.{in-bits}
 use borrow.Author.Needs.{needs}
 use Rattle.fields.proofs.positions.fits_position.Statement.{statement}
 use Rattle.fields.proofs.positions.fits_position.Tie as tie

@@ -4,7 +4,7 @@ use native.Mathlib.Omega.{arith}
 use lib.Seq.{length-take-le}
 use Rattle.fields.specs.Positions.{spellArc, spellPosition}
 use Rattle.fields.proofs.ArcLaws.{two-parts}
-use Rattle.fields.proofs.Bits.{in-bits}
+use Rattle.columns.proofs.Signs.{in-bits}
 use borrow.Author.Needs.{needs}
 use Rattle.fields.proofs.positions.put_position.Statement.{statement}
 use Rattle.fields.proofs.positions.put_position.Tie as tie

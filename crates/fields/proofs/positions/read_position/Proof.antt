@@ -9,7 +9,7 @@ use denote.Ref.{now}
 use Rattle.columns.specs.Texts.{sized}
 use Rattle.fields.specs.Positions.{arcGood, positionGood, positionOf, locatedOf}
 use Rattle.fields.proofs.ArcLaws.{arc-good, arc-value, arc-few}
-use Rattle.fields.proofs.Bits.{in-bits}
+use Rattle.columns.proofs.Signs.{in-bits}
 use borrow.Author.Needs.{needs}
 use Rattle.fields.proofs.positions.read_position.Statement.{statement}
 use Rattle.fields.proofs.positions.read_position.Tie as tie

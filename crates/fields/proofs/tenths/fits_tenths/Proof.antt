@@ -3,7 +3,7 @@ use mathlib.Core.Path.{_≡_, sym, _∙_}
 use borrow.Author.Tests.{not-true, not-false}
 use Rattle.columns.specs.Decimals.{formatFits}
 use Rattle.fields.specs.Tenths.{tenthsFit}
-use Rattle.fields.proofs.SignedLaws.{same-number}
+use Rattle.columns.proofs.Signs.{in-bits}
 use Rattle.fields.proofs.TenthsLaws.{fit-not, fit-range}
 use borrow.Author.Needs.{needs}
 use Rattle.fields.proofs.tenths.fits_tenths.Statement.{statement}
@@ -11,7 +11,7 @@ use Rattle.fields.proofs.tenths.fits_tenths.Tie as tie
 
 -- the digits have their places as the format has them
 fitted : (c : tie.After-fits-decimal) → c .fits-decimal .result ≡ formatFits (c .before .before .before .before .args .format) (c .before .before .v .given .0 .0)
-fitted c = rw (same-number (c .before .before .v .given .0 .0) (c .before .known-told .given .0 .1)) at (c .fits-decimal .ensures)
+fitted c = rw (in-bits (c .before .before .v .given .0 .0) (c .before .known-told .given .0 .1)) at (c .fits-decimal .ensures)
 
 enum-told : tie.Need-enum-told
 enum-told c = search needs
@@ -36,7 +36,7 @@ returns-3 : tie.Need-returns-3
 returns-3 c =
     let d = c .before .before in
     fit-range (d .before .before .before .before .args .format) _ (d .before .before .v .given .1) (sym (fitted d) ∙ not-false _ (c .before .if1 .left))
-    (rw (same-number (d .before .before .v .given .0 .0) (d .before .known-told .given .0 .1)) at (c .in-range .ensures))
+    (rw (in-bits (d .before .before .v .given .0 .0) (d .before .known-told .given .0 .1)) at (c .in-range .ensures))
 
 pub fits-tenths-spec : {M : Type 1} → statement M
 fits-tenths-spec =

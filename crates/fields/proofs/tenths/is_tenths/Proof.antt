@@ -2,7 +2,7 @@
 use mathlib.Core.Path.{sym, ap, _∙_}
 use Rattle.columns.specs.Numbers.{passes}
 use Rattle.fields.specs.Tenths.{rangeOf, tenthsGood}
-use Rattle.fields.proofs.SignedLaws.{same-number}
+use Rattle.columns.proofs.Signs.{in-bits}
 use borrow.Author.Needs.{needs}
 use Rattle.fields.proofs.tenths.is_tenths.Statement.{statement}
 use Rattle.fields.proofs.tenths.is_tenths.Tie as tie
@@ -36,7 +36,7 @@ returns-3 c =
     let r = c .before .before .before .before in
     let f = r .before .before .args .format in
     c .in-range .ensures
-    ∙ ap (rangeOf f) (same-number _ (c .before .known-told .given .0 .1))
+    ∙ ap (rangeOf f) (in-bits _ (c .before .known-told .given .0 .1))
     ∙ sym (ap (passes (rangeOf f)) (sym (r .read-decimal .ensures) ∙ c .before .before .v .given .1))
 
 pub is-tenths-spec : {M : Type 1} → statement M

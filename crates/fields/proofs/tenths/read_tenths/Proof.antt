@@ -2,7 +2,7 @@
 use mathlib.Core.Path.{sym, ap, _∙_}
 use Rattle.fields.specs.declared.tenths.Tenths.the-variants as tenths
 use Rattle.fields.specs.Tenths.{inTenths, tenthsOf}
-use Rattle.fields.proofs.SignedLaws.{same-number}
+use Rattle.columns.proofs.Signs.{in-bits}
 use borrow.Author.Needs.{needs}
 use Rattle.fields.proofs.tenths.read_tenths.Statement.{statement}
 use Rattle.fields.proofs.tenths.read_tenths.Tie as tie
@@ -29,7 +29,7 @@ returns-2 c = sym (ap inTenths (sym (c .before .before .read-decimal .ensures) �
 
 returns-3 : tie.Need-returns-3
 unfolding tenthsOf
-returns-3 c = ap tenths.Filled (same-number _ (c .known-told .given .0 .1)) ∙ sym (ap inTenths (sym (c .before .before .before .read-decimal .ensures) ∙ c .before .v .given .1))
+returns-3 c = ap tenths.Filled (in-bits _ (c .known-told .given .0 .1)) ∙ sym (ap inTenths (sym (c .before .before .before .read-decimal .ensures) ∙ c .before .v .given .1))
 
 pub read-tenths-spec : {M : Type 1} → statement M
 read-tenths-spec =
