@@ -7,6 +7,7 @@ use columns::numbers::Signed;
 use columns::numbers::Whole;
 use columns::sets::Set;
 use fields::positions::Located;
+ghost use Prim.Native.Nat.{_<_};
 
 // Writes to standard output.
 fn put(s: &[u8]) {
@@ -41,6 +42,19 @@ fn put_test(passed: bool) {
     }
 }
 
+// A whole number in lent columns.
+fn write_whole(s: &mut [u8], v: u64) {
+    let written = columns::numbers::write_whole(s, v);
+    put_columns(written, s);
+}
+
+// A whole number in the first n columns of a lent space.
+fn write_first(space: &mut [u8], n: usize, v: u64) {
+    if n <= space.len() {
+        write_whole(&mut space[0..n], v);
+    }
+}
+
 // A whole number, and its spelling in columns of the same width.
 fn whole(s: &[u8]) {
     match columns::numbers::read_whole(s) {
@@ -50,11 +64,7 @@ fn whole(s: &[u8]) {
             put(b" ");
             io::print_decimal(1, v);
             let mut space = [0u8; 300];
-            let n = s.len();
-            if n <= 300 {
-                let written = columns::numbers::write_whole(&mut space[..n], v);
-                put_columns(written, &space[..n]);
-            }
+            write_first(&mut space, s.len(), v);
         }
     }
 }
@@ -81,13 +91,17 @@ fn signed(s: &[u8], only_written: bool) {
     }
 }
 
-// The columns of a decimal.
-fn write_format(format: Format, v: i64) {
-    let mut space = [0u8; 16];
+// A decimal in lent columns.
+fn write_decimal(format: Format, s: &mut [u8], v: i64) {
+    let written = columns::decimals::write_decimal(format, s, v);
+    put_columns(written, s);
+}
+
+// A decimal in the columns of its format, the first of a lent space.
+fn write_format(format: Format, space: &mut [u8], v: i64) {
     let n = columns::decimals::decimal_width(format);
-    if n <= 16 {
-        let written = columns::decimals::write_decimal(format, &mut space[..n], v);
-        put_columns(written, &space[..n]);
+    if n <= space.len() {
+        write_decimal(format, &mut space[0..n], v);
     }
 }
 
@@ -99,7 +113,8 @@ fn decimal(format: Format, s: &[u8]) {
         Signed::Filled(v) => {
             put(b" ");
             put_number(v);
-            write_format(format, v);
+            let mut space = [0u8; 16];
+            write_format(format, &mut space, v);
         }
     }
 }
@@ -109,7 +124,10 @@ fn typed(format: Format, s: &[u8]) {
     match columns::numbers::read_signed(s) {
         Signed::Bad => put(b" bad\n"),
         Signed::Blank => put(b" blank\n"),
-        Signed::Filled(v) => write_format(format, v),
+        Signed::Filled(v) => {
+            let mut space = [0u8; 16];
+            write_format(format, &mut space, v);
+        }
     }
 }
 
@@ -239,7 +257,9 @@ fn answer(kind: u8, s: &[u8]) {
 }
 
 // The width of a vector: its three digits, 0 where they are none.
-fn width(s: &[u8]) -> usize {
+fn width(s: &[u8]) -> usize
+    ensures { λ r. ⌜ r < 1000 ⌝ }
+{
     match columns::numbers::read_whole(s) {
         Whole::Filled(v) => {
             if v < 1000 {
