@@ -42,3 +42,23 @@ all-front (x ∷ xs) ys h = (h .0, all-front xs ys (h .1))
 pub all-back : (xs ys : List Bool) → All (xs ++ ys) → All ys
 all-back [] ys h = h
 all-back (x ∷ xs) ys h = all-back xs ys (h .1)
+
+-- the first broken of two lists: the second is asked where none of the first is
+abbrev pub orElse : ℕ → ℕ → ℕ
+orElse zero y = y
+orElse (suc x) y = suc x
+
+pub first-append : (k : ℕ) (xs ys : List Bool) → firstBroken (suc k) (xs ++ ys) ≡ orElse (firstBroken (suc k) xs) (firstBroken (suc k + length xs) ys)
+unfolding firstBroken
+first-append k [] ys = rw (add-zero (suc k))
+first-append k (true ∷ xs) ys =
+    let n : suc k + suc (length xs) ≡ suc (suc k) + length xs = omega arith in
+    rw n (first-append (suc k) xs ys)
+first-append k (false ∷ xs) ys = refl
+
+-- a code that is given settles it,
+pub settled : {x : ℕ} (y : ℕ) → (x ≡ 0 → ⊥) → x ≡ orElse x y
+settled {x = x} y h = by x h where
+  by : (x : ℕ) → (x ≡ 0 → ⊥) → x ≡ orElse x y
+  by zero h = absurd (h refl)
+  by (suc x) h = refl

@@ -16,7 +16,7 @@ use Rattle.filing.specs.Rules.{All}
 use Rattle.filing.proofs.RuleLaws.{all-hold, none-broken, rule, all-append, all-front, all-back}
 use Rattle.filing.proofs.FieldLaws.{Wide, cut-joined, cut-wide, width-at}
 use Rattle.station.specs.Places.{stationPlaces, station-tiles, fieldsOf}
-use Rattle.station.specs.Rules.{fieldRules, channelRules, siteRules, emissionRules, antennaRules, filingRules, typedRules}
+use Rattle.station.specs.Rules.{fieldRules, channelFields, siteFields, emissionFields, antennaFields, filingFields, channelRules, siteRules, emissionRules, antennaRules, filingRules, typedRules}
 use Rattle.station.specs.Between.{betweenRules}
 use Rattle.station.specs.Values.{stationOf}
 use Rattle.station.specs.Spelling.{channelPieces, sitePieces, emissionPieces, antennaPieces, filingPieces, stationPieces, spellStation}
@@ -139,7 +139,7 @@ module _ (s : Station) (h : All (typedRules s)) where
 
   -- keeps its field's rule,
   pieces-kept : All (fieldRules (stationPieces s))
-  unfolding stationPieces channelPieces sitePieces emissionPieces antennaPieces filingPieces typedRules channelRules siteRules emissionRules antennaRules filingRules fieldRules
+  unfolding stationPieces channelPieces sitePieces emissionPieces antennaPieces filingPieces typedRules channelRules siteRules emissionRules antennaRules filingRules fieldRules channelFields siteFields emissionFields antennaFields filingFields
   pieces-kept = (
     frequency-pair .kept₁ (s .channel .transmit) (holds 1),
     (
@@ -266,7 +266,7 @@ module _ (f : List (List ℕ)) (w : Wide stationPlaces f) (h : All (fieldRules f
   width = width-at stationPlaces f w
 
   fits-read : All (typedRules (stationOf f))
-  unfolding fieldRules typedRules channelRules siteRules emissionRules antennaRules filingRules stationOf
+  unfolding fieldRules channelFields siteFields emissionFields antennaFields filingFields typedRules channelRules siteRules emissionRules antennaRules filingRules stationOf
   fits-read = (
     frequency-pair .read (at f 1) (at f 2) (unbroken 1),
     (

@@ -20,9 +20,9 @@ use Rattle.station.specs.declared.Antenna.{Antenna}
 use Rattle.station.specs.declared.Filing.{Filing}
 use Rattle.station.specs.declared.Station.{Station}
 
--- The rules of a record's fields, by code.
-unfoldable pub fieldRules : List (List ℕ) → List Bool
-fieldRules f =
+-- The rules of a record's fields, by code, in the five groups of the typed station.
+unfoldable pub channelFields : List (List ℕ) → List Bool
+channelFields f =
     amountGood (at f 1) ∷  -- 1A
     unitGood (at f 1) (at f 2) ∷  -- its unit
     byteGood isCategory (at f 3) ∷  -- 1Z
@@ -30,22 +30,38 @@ fieldRules f =
     serviceGood (at f 5) ∷  -- 6B
     usersGood (at f 6) ∷  -- 6Z
     byteGood isCarrier (at f 7) ∷  -- 10Z
+    []
+
+unfoldable pub siteFields : List (List ℕ) → List Bool
+siteFields f =
     dayGood (at f 8) ∷  -- 2C
     nameGood (at f 9) ∷  -- 4A
     countryGood (at f 10) ∷  -- 4B
     positionGood (at f 11) ∷  -- 4C
     wholeFilled (wholeOf (at f 12)) ∷  -- 4D
     heightGood (at f 13) ∷  -- 4Z
+    []
+
+unfoldable pub emissionFields : List (List ℕ) → List Bool
+emissionFields f =
     emissionGood (at f 14) ∷  -- 7A
     tenthsGood 3 1 true anyNumber (at f 15) ∷  -- 8B1
     byteGood isBasis (at f 16) ∷  -- 8B2
     tenthsGood 3 1 false (upTo 3599) (at f 17) ∷  -- 9A
     tenthsGood 2 1 true (upTo 900) (at f 18) ∷  -- 9B
+    []
+
+unfoldable pub antennaFields : List (List ℕ) → List Bool
+antennaFields f =
     polarisationGood (at f 19) ∷  -- 9D
     tenthsGood 2 1 false anyNumber (at f 20) ∷  -- 9G
     wholeFilled (wholeOf (at f 21)) ∷  -- 9Y
     antennaGood (at f 22) ∷  -- 9XH
     antennaGood (at f 23) ∷  -- 9XV
+    []
+
+unfoldable pub filingFields : List (List ℕ) → List Bool
+filingFields f =
     amountGood (at f 24) ∷  -- 1Y
     unitGood (at f 24) (at f 25) ∷  -- its unit
     remarksGood (at f 26) ∷  -- 13Z
@@ -54,6 +70,9 @@ fieldRules f =
     dayGood (at f 29) ∷  -- 2Z
     referenceGood (at f 30) ∷  -- 13X
     []
+
+unfoldable pub fieldRules : List (List ℕ) → List Bool
+fieldRules f = channelFields f ++ (siteFields f ++ (emissionFields f ++ (antennaFields f ++ filingFields f)))
 
 -- The rules of a typed station's values, by code: a value that its columns can't spell breaks that field's rule.
 -- A typed unit always has its letter, so 2 and 25 are never broken.
