@@ -3,10 +3,12 @@
 use mathlib.Core.Path.{_≡_, refl, sym, ap, _∙_}
 use mathlib.Core.Bool.{Bool, true, false, cond}
 use mathlib.Core.List.{List, [], _∷_, _++_}
-use Prim.Native.Nat.{ℕ, zero, suc, _+_, _-_}
+use Prim.Native.Nat.{ℕ, zero, suc, _+_, _-_, _≤_, _<_}
+use native.Mathlib.Numerals.{add-one}
 use native.Mathlib.Omega.{arith}
 use native.Mathlib.Nat.{add-zero}
-use lib.ListN.{length, getD}
+use lib.ListN.{length, getD, drop, drop-of-length-le}
+use lib.Seq.{drop-cons}
 use Rattle.filing.specs.Rules.{All, firstBroken}
 
 -- where no code is given, all hold,
@@ -62,3 +64,18 @@ settled {x = x} y h = by x h where
   by : (x : ℕ) → (x ≡ 0 → ⊥) → x ≡ orElse x y
   by zero h = absurd (h refl)
   by (suc x) h = refl
+
+-- from rule i on: a rule that holds is passed, one that is broken is given, and past the last there is none
+pub rule-on : (k : ℕ) (rules : List Bool) (i : ℕ) → i < length rules → getD rules i false ≡ true → firstBroken (k + i) (drop i rules) ≡ firstBroken (k + (i + 1)) (drop (i + 1) rules)
+unfolding firstBroken
+rule-on k rules i h e =
+    let n : suc (k + i) ≡ k + suc i = omega arith in
+    rw (add-one i, drop-cons rules i false h, e, n)
+
+pub rule-off : (k : ℕ) (rules : List Bool) (i : ℕ) → i < length rules → getD rules i false ≡ false → firstBroken (k + i) (drop i rules) ≡ k + i
+unfolding firstBroken
+rule-off k rules i h e = rw (drop-cons rules i false h, e)
+
+pub rule-end : (k : ℕ) (rules : List Bool) (i : ℕ) → length rules ≤ i → firstBroken (k + i) (drop i rules) ≡ 0
+unfolding firstBroken
+rule-end k rules i h = rw (drop-of-length-le rules {i = i} h)

@@ -1,0 +1,146 @@
+use native.Mathlib.Omega.{arith}
+use borrow.Author.Needs.{needs}
+use Rattle.reading.proofs.judging.filing_code.Statement.{statement}
+use Rattle.reading.proofs.judging.filing_code.Tie as tie
+use Rattle.reading.proofs.judging.filing_code.Reads as reads
+use Rattle.reading.proofs.judging.filing_code.Lts as lts
+use Rattle.fields.proofs.codes.is_reference.Reads as is-reference-reads
+use Rattle.fields.proofs.codes.is_status.Reads as is-status-reads
+use Rattle.fields.proofs.frequencies.is_amount.Reads as is-amount-reads
+use Rattle.fields.proofs.frequencies.is_unit.Reads as is-unit-reads
+use Rattle.fields.proofs.remarks.is_remarks.Reads as is-remarks-reads
+use Rattle.filing.proofs.rules.first_broken.Reads as first-broken-reads
+use Rattle.reading.proofs.judging.is_day.Reads as is-day-reads
+
+sub-is-amount : tie.Need-sub-is-amount
+sub-is-amount c = search needs
+
+part-is-amount-start : tie.Need-part-is-amount-start
+part-is-amount-start c = search needs
+
+part-is-amount-end : tie.Need-part-is-amount-end
+part-is-amount-end c = search needs
+
+is-amount-requires : tie.Need-is-amount-requires
+is-amount-requires c κs = search needs
+
+sub-is-unit : tie.Need-sub-is-unit
+sub-is-unit c = search needs
+
+part-is-unit-start : tie.Need-part-is-unit-start
+part-is-unit-start c = search needs
+
+part-is-unit-end : tie.Need-part-is-unit-end
+part-is-unit-end c = search needs
+
+sub-is-unit-2 : tie.Need-sub-is-unit-2
+sub-is-unit-2 c = search needs
+
+part-is-unit-start-2 : tie.Need-part-is-unit-start-2
+part-is-unit-start-2 c = search needs
+
+part-is-unit-end-2 : tie.Need-part-is-unit-end-2
+part-is-unit-end-2 c = search needs
+
+is-unit-requires : tie.Need-is-unit-requires
+is-unit-requires c κs = search needs
+
+sub-is-remarks : tie.Need-sub-is-remarks
+sub-is-remarks c = search needs
+
+part-is-remarks-start : tie.Need-part-is-remarks-start
+part-is-remarks-start c = search needs
+
+part-is-remarks-end : tie.Need-part-is-remarks-end
+part-is-remarks-end c = search needs
+
+is-remarks-requires : tie.Need-is-remarks-requires
+is-remarks-requires c κs = search needs
+
+shared-slice-read-is-status : tie.Need-shared-slice-read-is-status
+shared-slice-read-is-status c = search needs
+
+is-status-requires : tie.Need-is-status-requires
+is-status-requires c κs = search needs
+
+sub-is-day : tie.Need-sub-is-day
+sub-is-day c = search needs
+
+part-is-day-start : tie.Need-part-is-day-start
+part-is-day-start c = search needs
+
+part-is-day-end : tie.Need-part-is-day-end
+part-is-day-end c = search needs
+
+is-day-requires : tie.Need-is-day-requires
+is-day-requires c κs = search needs
+
+sub-is-day-2 : tie.Need-sub-is-day-2
+sub-is-day-2 c = search needs
+
+part-is-day-start-2 : tie.Need-part-is-day-start-2
+part-is-day-start-2 c = search needs
+
+part-is-day-end-2 : tie.Need-part-is-day-end-2
+part-is-day-end-2 c = search needs
+
+is-day-requires-2 : tie.Need-is-day-requires-2
+is-day-requires-2 c κs = search needs
+
+sub-is-reference : tie.Need-sub-is-reference
+sub-is-reference c = search needs
+
+part-is-reference-start : tie.Need-part-is-reference-start
+part-is-reference-start c = search needs
+
+part-is-reference-end : tie.Need-part-is-reference-end
+part-is-reference-end c = search needs
+
+is-reference-requires : tie.Need-is-reference-requires
+is-reference-requires c κs = search needs
+
+slice-aggregate-first-broken : tie.Need-slice-aggregate-first-broken
+slice-aggregate-first-broken c = search needs
+
+first-broken-requires : tie.Need-first-broken-requires
+first-broken-requires c κs = search needs
+
+returns : tie.Need-returns
+returns c = ?
+
+pub filing-code-spec : {M : Type 1} → statement M
+filing-code-spec =
+    tie.close
+    (tie.spec
+    sub-is-amount
+    part-is-amount-start
+    part-is-amount-end
+    is-amount-requires
+    sub-is-unit
+    part-is-unit-start
+    part-is-unit-end
+    sub-is-unit-2
+    part-is-unit-start-2
+    part-is-unit-end-2
+    is-unit-requires
+    sub-is-remarks
+    part-is-remarks-start
+    part-is-remarks-end
+    is-remarks-requires
+    shared-slice-read-is-status
+    is-status-requires
+    sub-is-day
+    part-is-day-start
+    part-is-day-end
+    is-day-requires
+    sub-is-day-2
+    part-is-day-start-2
+    part-is-day-end-2
+    is-day-requires-2
+    sub-is-reference
+    part-is-reference-start
+    part-is-reference-end
+    is-reference-requires
+    slice-aggregate-first-broken
+    first-broken-requires
+    returns)

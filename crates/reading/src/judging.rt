@@ -1,0 +1,122 @@
+// The code of a station's record, read in place: the first broken rule, 1 to 30 and then 31 to 39.
+use columns::dates::Dated;
+use columns::dates::read_date;
+use columns::decimals::Format;
+use fields::codes::{is_antenna, is_basis, is_carrier, is_category, is_class, is_country, is_polarisation};
+use fields::codes::{is_reference, is_service, is_station_name, is_status, is_users};
+use fields::distances::{is_height, is_whole_filled};
+use fields::emission::is_emission;
+use fields::frequencies::{is_amount, is_unit};
+use fields::positions::Located;
+use fields::positions::read_position;
+use fields::remarks::is_remarks;
+use fields::tenths::is_tenths;
+use filing::rules::first_broken;
+ghost use mathlib.Core.Path.{_≡_};
+ghost use lib.ListN.{length};
+ghost use Rattle.columns.specs.Dates.{dayGood};
+ghost use Rattle.fields.specs.Positions.{positionGood};
+ghost use Rattle.filing.specs.Rules.{firstBroken};
+ghost use Rattle.station.specs.Places.{fieldsOf};
+ghost use Rattle.station.specs.Rules.{channelFields, siteFields, emissionFields, antennaFields, filingFields};
+
+// A date or blank.
+fn is_day(s: &[u8]) -> bool
+    ensures { λ r. ⌜ r ≡ dayGood (now (s .entry)) ⌝ }
+{
+    match read_date(s) {
+        Dated::Bad => false,
+        Dated::Blank => true,
+        Dated::Filled(_) => true,
+    }
+}
+
+// 4C can be read.
+fn is_position(s: &[u8]) -> bool
+    ensures { λ r. ⌜ r ≡ positionGood (now (s .entry)) ⌝ }
+{
+    match read_position(s) {
+        Located::Bad => false,
+        Located::Filled(_) => true,
+    }
+}
+
+// Rules 1 to 7.
+fn channel_code(rec: &[u8]) -> u8
+    requires { ⌜ length (now rec) ≡ 219 ⌝ }
+    ensures { λ r. ⌜ r ≡ firstBroken 1 (channelFields (fieldsOf (now (rec .entry)))) ⌝ }
+{
+    let rules = [
+        is_amount(&rec[0..11]),
+        is_unit(&rec[0..11], &rec[11..12]),
+        is_category(rec[12]),
+        is_class(&rec[13..15]),
+        is_service(&rec[15..17]),
+        is_users(&rec[17..19]),
+        is_carrier(rec[19]),
+    ];
+    first_broken(&rules, 1)
+}
+
+// Rules 8 to 13.
+fn site_code(rec: &[u8]) -> u8
+    requires { ⌜ length (now rec) ≡ 219 ⌝ }
+    ensures { λ r. ⌜ r ≡ firstBroken 8 (siteFields (fieldsOf (now (rec .entry)))) ⌝ }
+{
+    let rules = [
+        is_day(&rec[20..28]),
+        is_station_name(&rec[28..48]),
+        is_country(&rec[48..51]),
+        is_position(&rec[51..66]),
+        is_whole_filled(&rec[66..71]),
+        is_height(&rec[71..75]),
+    ];
+    first_broken(&rules, 8)
+}
+
+// Rules 14 to 18.
+fn emission_code(rec: &[u8]) -> u8
+    requires { ⌜ length (now rec) ≡ 219 ⌝ }
+    ensures { λ r. ⌜ r ≡ firstBroken 14 (emissionFields (fieldsOf (now (rec .entry)))) ⌝ }
+{
+    let rules = [
+        is_emission(&rec[75..84]),
+        is_tenths(Format::Power, &rec[84..90]),
+        is_basis(rec[90]),
+        is_tenths(Format::Azimuth, &rec[91..96]),
+        is_tenths(Format::Elevation, &rec[96..101]),
+    ];
+    first_broken(&rules, 14)
+}
+
+// Rules 19 to 23.
+fn antenna_code(rec: &[u8]) -> u8
+    requires { ⌜ length (now rec) ≡ 219 ⌝ }
+    ensures { λ r. ⌜ r ≡ firstBroken 19 (antennaFields (fieldsOf (now (rec .entry)))) ⌝ }
+{
+    let rules = [
+        is_polarisation(&rec[101..103]),
+        is_tenths(Format::Gain, &rec[103..107]),
+        is_whole_filled(&rec[107..111]),
+        is_antenna(&rec[111..118]),
+        is_antenna(&rec[118..125]),
+    ];
+    first_broken(&rules, 19)
+}
+
+// Rules 24 to 30.
+fn filing_code(rec: &[u8]) -> u8
+    requires { ⌜ length (now rec) ≡ 219 ⌝ }
+    ensures { λ r. ⌜ r ≡ firstBroken 24 (filingFields (fieldsOf (now (rec .entry)))) ⌝ }
+{
+    let rules = [
+        is_amount(&rec[125..136]),
+        is_unit(&rec[125..136], &rec[136..137]),
+        is_remarks(&rec[137..187]),
+        is_status(rec[187]),
+        is_day(&rec[188..196]),
+        is_day(&rec[196..204]),
+        is_reference(&rec[204..219]),
+    ];
+    first_broken(&rules, 24)
+}

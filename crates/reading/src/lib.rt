@@ -1,0 +1,2 @@
+// A station's record of 219 bytes: its code, and its typed station.
+pub mod judging;
