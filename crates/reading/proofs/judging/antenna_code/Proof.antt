@@ -1,14 +1,12 @@
+-- `reading::judging::antenna_code` meets its contract: each test of the code is a rule of the group. Assumes nothing.
+use mathlib.Core.Path.{_≡_, _∙_}
+use denote.Ref.{now}
+use Rattle.station.specs.Places.{fieldsOf}
+use Rattle.station.specs.Rules.{antennaFields}
 use native.Mathlib.Omega.{arith}
 use borrow.Author.Needs.{needs}
 use Rattle.reading.proofs.judging.antenna_code.Statement.{statement}
 use Rattle.reading.proofs.judging.antenna_code.Tie as tie
-use Rattle.reading.proofs.judging.antenna_code.Reads as reads
-use Rattle.reading.proofs.judging.antenna_code.Lts as lts
-use Rattle.fields.proofs.codes.is_antenna.Reads as is-antenna-reads
-use Rattle.fields.proofs.codes.is_polarisation.Reads as is-polarisation-reads
-use Rattle.fields.proofs.distances.is_whole_filled.Reads as is-whole-filled-reads
-use Rattle.fields.proofs.tenths.is_tenths.Reads as is-tenths-reads
-use Rattle.filing.proofs.rules.first_broken.Reads as first-broken-reads
 
 sub-is-polarisation : tie.Need-sub-is-polarisation
 sub-is-polarisation c = search needs
@@ -77,7 +75,18 @@ first-broken-requires : tie.Need-first-broken-requires
 first-broken-requires c κs = search needs
 
 returns : tie.Need-returns
-returns c = ?
+unfolding antennaFields fieldsOf
+returns c =
+    let s = c .before .before .before .before .before .before .before .before .before .before .before .before .before in
+    let r = now (s .args .rec) in
+    c .first-broken .ensures
+    ∙ rw (
+      c .before .before .before .before .before .before .before .before .before .before .is-polarisation .ensures,
+      c .before .before .before .before .before .before .before .before .is-tenths .ensures,
+      c .before .before .before .before .before .before .is-whole-filled .ensures,
+      c .before .before .before .before .is-antenna .ensures,
+      c .before .before .is-antenna2 .ensures,
+    )
 
 pub antenna-code-spec : {M : Type 1} → statement M
 antenna-code-spec =

@@ -1,17 +1,14 @@
+-- `reading::judging::channel_code` meets its contract: each test of the code is a rule of the group. Assumes nothing.
+use mathlib.Core.Path.{_≡_, _∙_}
+use denote.Ref.{now}
+use Rattle.fields.specs.Codes.{isCategory, isCarrier}
+use Rattle.reading.proofs.PartLaws.{byte-field}
+use Rattle.station.specs.Places.{fieldsOf}
+use Rattle.station.specs.Rules.{channelFields}
 use native.Mathlib.Omega.{arith}
 use borrow.Author.Needs.{needs}
 use Rattle.reading.proofs.judging.channel_code.Statement.{statement}
 use Rattle.reading.proofs.judging.channel_code.Tie as tie
-use Rattle.reading.proofs.judging.channel_code.Reads as reads
-use Rattle.reading.proofs.judging.channel_code.Lts as lts
-use Rattle.fields.proofs.codes.is_carrier.Reads as is-carrier-reads
-use Rattle.fields.proofs.codes.is_category.Reads as is-category-reads
-use Rattle.fields.proofs.codes.is_class.Reads as is-class-reads
-use Rattle.fields.proofs.codes.is_service.Reads as is-service-reads
-use Rattle.fields.proofs.codes.is_users.Reads as is-users-reads
-use Rattle.fields.proofs.frequencies.is_amount.Reads as is-amount-reads
-use Rattle.fields.proofs.frequencies.is_unit.Reads as is-unit-reads
-use Rattle.filing.proofs.rules.first_broken.Reads as first-broken-reads
 
 sub-is-amount : tie.Need-sub-is-amount
 sub-is-amount c = search needs
@@ -101,7 +98,24 @@ first-broken-requires : tie.Need-first-broken-requires
 first-broken-requires c κs = search needs
 
 returns : tie.Need-returns
-returns c = ?
+unfolding channelFields fieldsOf
+returns c =
+    let s = c .before .before .before .before .before .before .before .before .before .before .before .before .before .before .before .before .before .before in
+    let r = now (s .args .rec) in
+    let b12 = byte-field isCategory r 12 (omega (arith, s .pre)) in
+    let b19 = byte-field isCarrier r 19 (omega (arith, s .pre)) in
+    c .first-broken .ensures
+    ∙ rw (
+      c .before .before .before .before .before .before .before .before .before .before .before .before .before .before .before .is-amount .ensures,
+      c .before .before .before .before .before .before .before .before .before .before .before .before .is-unit .ensures,
+      c .before .before .before .before .before .before .before .before .before .before .is-category .ensures,
+      c .before .before .before .before .before .before .before .before .is-class .ensures,
+      c .before .before .before .before .before .before .is-service .ensures,
+      c .before .before .before .before .is-users .ensures,
+      c .before .before .is-carrier .ensures,
+      b12,
+      b19,
+    )
 
 pub channel-code-spec : {M : Type 1} → statement M
 channel-code-spec =

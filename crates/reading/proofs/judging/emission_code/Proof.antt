@@ -1,13 +1,14 @@
+-- `reading::judging::emission_code` meets its contract: each test of the code is a rule of the group. Assumes nothing.
+use mathlib.Core.Path.{_≡_, _∙_}
+use denote.Ref.{now}
+use Rattle.fields.specs.Codes.{isBasis}
+use Rattle.reading.proofs.PartLaws.{byte-field}
+use Rattle.station.specs.Places.{fieldsOf}
+use Rattle.station.specs.Rules.{emissionFields}
 use native.Mathlib.Omega.{arith}
 use borrow.Author.Needs.{needs}
 use Rattle.reading.proofs.judging.emission_code.Statement.{statement}
 use Rattle.reading.proofs.judging.emission_code.Tie as tie
-use Rattle.reading.proofs.judging.emission_code.Reads as reads
-use Rattle.reading.proofs.judging.emission_code.Lts as lts
-use Rattle.fields.proofs.codes.is_basis.Reads as is-basis-reads
-use Rattle.fields.proofs.emission.is_emission.Reads as is-emission-reads
-use Rattle.fields.proofs.tenths.is_tenths.Reads as is-tenths-reads
-use Rattle.filing.proofs.rules.first_broken.Reads as first-broken-reads
 
 sub-is-emission : tie.Need-sub-is-emission
 sub-is-emission c = search needs
@@ -70,7 +71,20 @@ first-broken-requires : tie.Need-first-broken-requires
 first-broken-requires c κs = search needs
 
 returns : tie.Need-returns
-returns c = ?
+unfolding emissionFields fieldsOf
+returns c =
+    let s = c .before .before .before .before .before .before .before .before .before .before .before .before .before in
+    let r = now (s .args .rec) in
+    let b90 = byte-field isBasis r 90 (omega (arith, s .pre)) in
+    c .first-broken .ensures
+    ∙ rw (
+      c .before .before .before .before .before .before .before .before .before .before .is-emission .ensures,
+      c .before .before .before .before .before .before .before .before .is-tenths .ensures,
+      c .before .before .before .before .before .before .is-basis .ensures,
+      c .before .before .before .before .is-tenths2 .ensures,
+      c .before .before .is-tenths3 .ensures,
+      b90,
+    )
 
 pub emission-code-spec : {M : Type 1} → statement M
 emission-code-spec =

@@ -1,16 +1,14 @@
+-- `reading::judging::filing_code` meets its contract: each test of the code is a rule of the group. Assumes nothing.
+use mathlib.Core.Path.{_≡_, _∙_}
+use denote.Ref.{now}
+use Rattle.fields.specs.Codes.{isStatus}
+use Rattle.reading.proofs.PartLaws.{byte-field}
+use Rattle.station.specs.Places.{fieldsOf}
+use Rattle.station.specs.Rules.{filingFields}
 use native.Mathlib.Omega.{arith}
 use borrow.Author.Needs.{needs}
 use Rattle.reading.proofs.judging.filing_code.Statement.{statement}
 use Rattle.reading.proofs.judging.filing_code.Tie as tie
-use Rattle.reading.proofs.judging.filing_code.Reads as reads
-use Rattle.reading.proofs.judging.filing_code.Lts as lts
-use Rattle.fields.proofs.codes.is_reference.Reads as is-reference-reads
-use Rattle.fields.proofs.codes.is_status.Reads as is-status-reads
-use Rattle.fields.proofs.frequencies.is_amount.Reads as is-amount-reads
-use Rattle.fields.proofs.frequencies.is_unit.Reads as is-unit-reads
-use Rattle.fields.proofs.remarks.is_remarks.Reads as is-remarks-reads
-use Rattle.filing.proofs.rules.first_broken.Reads as first-broken-reads
-use Rattle.reading.proofs.judging.is_day.Reads as is-day-reads
 
 sub-is-amount : tie.Need-sub-is-amount
 sub-is-amount c = search needs
@@ -106,7 +104,22 @@ first-broken-requires : tie.Need-first-broken-requires
 first-broken-requires c κs = search needs
 
 returns : tie.Need-returns
-returns c = ?
+unfolding filingFields fieldsOf
+returns c =
+    let s = c .before .before .before .before .before .before .before .before .before .before .before .before .before .before .before .before .before .before in
+    let r = now (s .args .rec) in
+    let b187 = byte-field isStatus r 187 (omega (arith, s .pre)) in
+    c .first-broken .ensures
+    ∙ rw (
+      c .before .before .before .before .before .before .before .before .before .before .before .before .before .before .before .is-amount .ensures,
+      c .before .before .before .before .before .before .before .before .before .before .before .before .is-unit .ensures,
+      c .before .before .before .before .before .before .before .before .before .before .is-remarks .ensures,
+      c .before .before .before .before .before .before .before .before .is-status .ensures,
+      c .before .before .before .before .before .before .is-day .ensures,
+      c .before .before .before .before .is-day2 .ensures,
+      c .before .before .is-reference .ensures,
+      b187,
+    )
 
 pub filing-code-spec : {M : Type 1} → statement M
 filing-code-spec =

@@ -1,10 +1,10 @@
-use native.Mathlib.Omega.{arith}
+-- `reading::judging::is_day` meets its contract, answer by answer. Assumes nothing.
+use mathlib.Core.Path.{_≡_, sym, ap, _∙_}
+use mathlib.Core.Bool.{Bool}
+use Rattle.columns.specs.Dates.{dayPasses, dateOf, dayGood}
 use borrow.Author.Needs.{needs}
 use Rattle.reading.proofs.judging.is_day.Statement.{statement}
 use Rattle.reading.proofs.judging.is_day.Tie as tie
-use Rattle.reading.proofs.judging.is_day.Reads as reads
-use Rattle.reading.proofs.judging.is_day.Lts as lts
-use Rattle.columns.proofs.dates.read_date.Reads as read-date-reads
 
 read-date-requires : tie.Need-read-date-requires
 read-date-requires c κs = search needs
@@ -19,13 +19,16 @@ enum-told-3 : tie.Need-enum-told-3
 enum-told-3 c = search needs
 
 returns : tie.Need-returns
-returns c = ?
+unfolding dayGood
+returns c = sym (ap dayPasses (sym (c .before .before .read-date .ensures) ∙ c .enum-told .given .1))
 
 returns-2 : tie.Need-returns-2
-returns-2 c = ?
+unfolding dayGood
+returns-2 c = sym (ap dayPasses (sym (c .before .before .read-date .ensures) ∙ c .enum-told2 .given .1))
 
 returns-3 : tie.Need-returns-3
-returns-3 c = ?
+unfolding dayGood
+returns-3 c = sym (ap dayPasses (sym (c .before .before .read-date .ensures) ∙ c .enum-told3 .given .1))
 
 pub is-day-spec : {M : Type 1} → statement M
 is-day-spec =

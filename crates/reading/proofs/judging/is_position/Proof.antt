@@ -1,10 +1,27 @@
-use native.Mathlib.Omega.{arith}
+-- `reading::judging::is_position` meets its contract, answer by answer. Assumes nothing.
+use mathlib.Core.Path.{_≡_, refl, sym, ap, _∙_}
+use mathlib.Core.Bool.{Bool, true, false, cond}
+use mathlib.Core.List.{List}
+use Prim.Native.Nat.{ℕ}
+use Rattle.fields.specs.Positions.{positionGood, positionOf, locatedOf}
+use Rattle.fields.specs.declared.positions.Position.{Position}
+use Rattle.fields.specs.declared.positions.Located.{Located}
+use Rattle.fields.specs.declared.positions.Located.the-variants as located
 use borrow.Author.Needs.{needs}
 use Rattle.reading.proofs.judging.is_position.Statement.{statement}
 use Rattle.reading.proofs.judging.is_position.Tie as tie
-use Rattle.reading.proofs.judging.is_position.Reads as reads
-use Rattle.reading.proofs.judging.is_position.Lts as lts
-use Rattle.fields.proofs.positions.read_position.Reads as read-position-reads
+
+-- a position was read
+found : Located → Bool
+found located.Bad = false
+found (located.Filled p) = true
+
+found-good : (p : List ℕ) → found (locatedOf p) ≡ positionGood p
+unfolding locatedOf found
+found-good p = by (positionGood p) (positionOf p) where
+  by : (b : Bool) (v : Position) → found (cond b (located.Filled v) located.Bad) ≡ b
+  by true v = refl
+  by false v = refl
 
 read-position-requires : tie.Need-read-position-requires
 read-position-requires c κs = search needs
@@ -16,10 +33,12 @@ enum-told-2 : tie.Need-enum-told-2
 enum-told-2 c = search needs
 
 returns : tie.Need-returns
-returns c = ?
+unfolding found
+returns c = sym (ap found (c .enum-told .given .1)) ∙ ap found (c .before .before .read-position .ensures) ∙ found-good _
 
 returns-2 : tie.Need-returns-2
-returns-2 c = ?
+unfolding found
+returns-2 c = sym (ap found (c .enum-told2 .given .1)) ∙ ap found (c .before .before .read-position .ensures) ∙ found-good _
 
 pub is-position-spec : {M : Type 1} → statement M
 is-position-spec =

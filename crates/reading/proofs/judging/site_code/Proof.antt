@@ -1,16 +1,12 @@
+-- `reading::judging::site_code` meets its contract: each test of the code is a rule of the group. Assumes nothing.
+use mathlib.Core.Path.{_≡_, _∙_}
+use denote.Ref.{now}
+use Rattle.station.specs.Places.{fieldsOf}
+use Rattle.station.specs.Rules.{siteFields}
 use native.Mathlib.Omega.{arith}
 use borrow.Author.Needs.{needs}
 use Rattle.reading.proofs.judging.site_code.Statement.{statement}
 use Rattle.reading.proofs.judging.site_code.Tie as tie
-use Rattle.reading.proofs.judging.site_code.Reads as reads
-use Rattle.reading.proofs.judging.site_code.Lts as lts
-use Rattle.fields.proofs.codes.is_country.Reads as is-country-reads
-use Rattle.fields.proofs.codes.is_station_name.Reads as is-station-name-reads
-use Rattle.fields.proofs.distances.is_height.Reads as is-height-reads
-use Rattle.fields.proofs.distances.is_whole_filled.Reads as is-whole-filled-reads
-use Rattle.filing.proofs.rules.first_broken.Reads as first-broken-reads
-use Rattle.reading.proofs.judging.is_day.Reads as is-day-reads
-use Rattle.reading.proofs.judging.is_position.Reads as is-position-reads
 
 sub-is-day : tie.Need-sub-is-day
 sub-is-day c = search needs
@@ -91,7 +87,19 @@ first-broken-requires : tie.Need-first-broken-requires
 first-broken-requires c κs = search needs
 
 returns : tie.Need-returns
-returns c = ?
+unfolding siteFields fieldsOf
+returns c =
+    let s = c .before .before .before .before .before .before .before .before .before .before .before .before .before .before .before in
+    let r = now (s .args .rec) in
+    c .first-broken .ensures
+    ∙ rw (
+      c .before .before .before .before .before .before .before .before .before .before .before .before .is-day .ensures,
+      c .before .before .before .before .before .before .before .before .before .before .is-station-name .ensures,
+      c .before .before .before .before .before .before .before .before .is-country .ensures,
+      c .before .before .before .before .before .before .is-position .ensures,
+      c .before .before .before .before .is-whole-filled .ensures,
+      c .before .before .is-height .ensures,
+    )
 
 pub site-code-spec : {M : Type 1} → statement M
 site-code-spec =
