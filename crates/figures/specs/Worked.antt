@@ -18,7 +18,7 @@ use Rattle.fields.specs.Codes.{isCategory, classGood, serviceGood, usersGood, i
 use Rattle.filing.specs.Rules.{firstBroken}
 use Rattle.station.specs.Places.{fieldsOf}
 use Rattle.station.specs.Rules.{fieldRules, channelFields, siteFields, emissionFields, antennaFields, filingFields, channelRules, siteRules, emissionRules, antennaRules, filingRules, typedRules}
-use Rattle.station.specs.Between.{mobile, roundAntenna, betweenRules}
+use Rattle.station.specs.Between.{mobile, roundAntenna, firstBetween, lastBetween, betweenRules}
 use Rattle.station.specs.Values.{stationOf}
 use Rattle.station.specs.Spelling.{channelPieces, sitePieces, emissionPieces, antennaPieces, filingPieces, stationPieces, spellStation}
 use Rattle.station.specs.Codes.{valueOf, stationCode, typedCode}
@@ -121,7 +121,7 @@ pub record Worked : Type 0 where
   pub no-field : refusal (showOutcome two 0 15) ≡ 8
 
 pub worked : Worked
-unfolding Holds among isHex isNarrow isText isName skip trimmed every howMany each byteGood same oneOf leading numberFrom wholeDigits wholeOf unsigned signedOf fractionOf magnitudeOf decimalOf dateRule dateIn dateOf dayGood dayOf tenthsGood tenthsOf amountGood unitGood unitOf frequencyOf radiusOf groundOf heightGood heightOf arcSeconds arcGood arcOf positionGood positionOf bandwidthGood detailGood emissionGood cellGood installationGood remarksGood isCategory classGood serviceGood usersGood isCarrier nameGood countryGood isBasis polarisationGood antennaGood isStatus referenceGood firstBroken fieldsOf fieldRules channelFields siteFields emissionFields antennaFields filingFields mobile roundAntenna betweenRules stationOf valueOf stationCode isMail textGood dateGood serialGood serialOf headerOf headerFields headerRules headerValue headerCode filedHeaderCode stations recordAt withRecord referenceAt codeAt tooLong notRecords fieldAt fieldCount twinAt rowOf rowIn bad trailer withTrailer judgedSheet sheetOf headIn trailerFits touched mendedRow replacing.mendedSheet rowsWritten refusal ifDone fileOutcome replaceOutcome replacedSheet replacedRows showOutcome shownField frequencyFits dayFits radiusFits groundFits heightFits positionFits tenthsFit channelRules siteRules emissionRules antennaRules filingRules typedRules typedCode spellDigits spellMagnitude spellDecimal spellSigned spellDate spellDay spellTenths unitLetter spellAmount spellUnit spellRadius spellGround spellHeight spellArc spellPosition channelPieces sitePieces emissionPieces antennaPieces filingPieces stationPieces spellStation
+unfolding Holds among isHex isNarrow isText isName skip trimmed every howMany each byteGood same oneOf leading numberFrom wholeDigits wholeOf unsigned signedOf fractionOf magnitudeOf decimalOf dateRule dateIn dateOf dayGood dayOf tenthsGood tenthsOf amountGood unitGood unitOf frequencyOf radiusOf groundOf heightGood heightOf arcSeconds arcGood arcOf positionGood positionOf bandwidthGood detailGood emissionGood cellGood installationGood remarksGood isCategory classGood serviceGood usersGood isCarrier nameGood countryGood isBasis polarisationGood antennaGood isStatus referenceGood firstBroken fieldsOf fieldRules channelFields siteFields emissionFields antennaFields filingFields mobile roundAntenna firstBetween lastBetween betweenRules stationOf valueOf stationCode isMail textGood dateGood serialGood serialOf headerOf headerFields headerRules headerValue headerCode filedHeaderCode stations recordAt withRecord referenceAt codeAt tooLong notRecords fieldAt fieldCount twinAt rowOf rowIn bad trailer withTrailer judgedSheet sheetOf headIn trailerFits touched mendedRow replacing.mendedSheet rowsWritten refusal ifDone fileOutcome replaceOutcome replacedSheet replacedRows showOutcome shownField frequencyFits dayFits radiusFits groundFits heightFits positionFits tenthsFit channelRules siteRules emissionRules antennaRules filingRules typedRules typedCode spellDigits spellMagnitude spellDecimal spellSigned spellDate spellDay spellTenths unitLetter spellAmount spellUnit spellRadius spellGround spellHeight spellArc spellPosition channelPieces sitePieces emissionPieces antennaPieces filingPieces stationPieces spellStation
 worked = record {
   traps-hold = (
     (refl, refl),

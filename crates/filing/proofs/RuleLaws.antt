@@ -45,25 +45,21 @@ pub all-back : (xs ys : List Bool) → All (xs ++ ys) → All ys
 all-back [] ys h = h
 all-back (x ∷ xs) ys h = all-back xs ys (h .1)
 
--- the first broken of two lists: the second is asked where none of the first is
-abbrev pub orElse : ℕ → ℕ → ℕ
-orElse zero y = y
-orElse (suc x) y = suc x
-
-pub first-append : (k : ℕ) (xs ys : List Bool) → firstBroken (suc k) (xs ++ ys) ≡ orElse (firstBroken (suc k) xs) (firstBroken (suc k + length xs) ys)
+-- the first broken of two lists: of the second where none of the first is,
+pub group-on : (k : ℕ) (xs ys : List Bool) → firstBroken (suc k) xs ≡ 0 → firstBroken (suc k) (xs ++ ys) ≡ firstBroken (suc k + length xs) ys
 unfolding firstBroken
-first-append k [] ys = rw (add-zero (suc k))
-first-append k (true ∷ xs) ys =
+group-on k [] ys e = rw (add-zero (suc k))
+group-on k (true ∷ xs) ys e =
     let n : suc k + suc (length xs) ≡ suc (suc k) + length xs = omega arith in
-    rw n (first-append (suc k) xs ys)
-first-append k (false ∷ xs) ys = refl
+    rw n (group-on (suc k) xs ys e)
+group-on k (false ∷ xs) ys e = absurd (omega arith)
 
--- a code that is given settles it,
-pub settled : {x : ℕ} (y : ℕ) → (x ≡ 0 → ⊥) → x ≡ orElse x y
-settled {x = x} y h = by x h where
-  by : (x : ℕ) → (x ≡ 0 → ⊥) → x ≡ orElse x y
-  by zero h = absurd (h refl)
-  by (suc x) h = refl
+-- and else of the first
+pub group-off : (k : ℕ) (xs ys : List Bool) → (firstBroken (suc k) xs ≡ 0 → ⊥) → firstBroken (suc k) (xs ++ ys) ≡ firstBroken (suc k) xs
+unfolding firstBroken
+group-off k [] ys n = absurd (n refl)
+group-off k (true ∷ xs) ys n = group-off (suc k) xs ys n
+group-off k (false ∷ xs) ys n = refl
 
 -- from rule i on: a rule that holds is passed, one that is broken is given, and past the last there is none
 pub rule-on : (k : ℕ) (rules : List Bool) (i : ℕ) → i < length rules → getD rules i false ≡ true → firstBroken (k + i) (drop i rules) ≡ firstBroken (k + (i + 1)) (drop (i + 1) rules)

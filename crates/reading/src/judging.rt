@@ -18,7 +18,7 @@ ghost use Rattle.columns.specs.Dates.{dayGood};
 ghost use Rattle.fields.specs.Positions.{positionGood};
 ghost use Rattle.filing.specs.Rules.{firstBroken};
 ghost use Rattle.station.specs.Places.{fieldsOf};
-ghost use Rattle.station.specs.Rules.{channelFields, siteFields, emissionFields, antennaFields, filingFields};
+ghost use Rattle.station.specs.Rules.{channelFields, siteFields, emissionFields, antennaFields, filingFields, fieldRules};
 
 // A date or blank.
 fn is_day(s: &[u8]) -> bool
@@ -119,4 +119,28 @@ fn filing_code(rec: &[u8]) -> u8
         is_reference(&rec[204..219]),
     ];
     first_broken(&rules, 24)
+}
+
+// Rules 1 to 30, group after group.
+fn field_code(rec: &[u8]) -> u8
+    requires { ⌜ length (now rec) ≡ 219 ⌝ }
+    ensures { λ r. ⌜ r ≡ firstBroken 1 (fieldRules (fieldsOf (now (rec .entry)))) ⌝ }
+{
+    let channel = channel_code(rec);
+    if channel != 0 {
+        return channel;
+    }
+    let site = site_code(rec);
+    if site != 0 {
+        return site;
+    }
+    let emission = emission_code(rec);
+    if emission != 0 {
+        return emission;
+    }
+    let antenna = antenna_code(rec);
+    if antenna != 0 {
+        return antenna;
+    }
+    filing_code(rec)
 }
