@@ -7,13 +7,13 @@ use Prim.Native.Nat.{ℕ, zero, suc, _+_, _-_, _≤_, _<_}
 use native.Mathlib.Omega.{arith}
 use native.Mathlib.Decide.{decLt, ℕ-discrete}
 use native.Mathlib.Nat.{add-zero}
-use native.Mathlib.Numerals.{add-one}
+use native.Mathlib.Numerals.{add-one, sub-one}
 use lib.Arith.{lt-of-le-ne}
 use lib.Dec.{leb, eqb, eqb·suc-suc}
 use lib.ListN.{length, getD, take, drop, replicate, length-drop, drop-of-length-le, List·getD-eq-default}
-use lib.Seq.{drop-cons, getD-drop, drop-drop, take-all}
+use lib.Seq.{drop-cons, getD-drop, drop-drop, take-all, take-suc}
 use borrow.Author.Tests.{eq-eqb, ne-eqb}
-use Rattle.columns.specs.Texts.{head, tail, ended, skip, every, each, same}
+use Rattle.columns.specs.Texts.{head, tail, ended, skip, blank, trimmed, every, each, same}
 
 -- both tests passed
 pub and-split : (a b : Bool) → (a && b) ≡ true → (a ≡ true) × (b ≡ true)
@@ -150,3 +150,39 @@ each-replicate (suc k) test (c ∷ p) = by (test c) (each-replicate k test p) wh
   by : (b : Bool) → each (replicate k test) p ≡ eqb (length p) k && every test p → b && each (replicate k test) p ≡ eqb (suc (length p)) (suc k) && (b && every test p)
   by true e = rw (eqb·suc-suc (length p) k) e
   by false e = sym (and-false (eqb (suc (length p)) (suc k)))
+
+-- a space at the end of a text changes neither whether it is blank nor what is left with trailing spaces off,
+blank-space : (p : List ℕ) → blank (p ++ (32 ∷ [])) ≡ blank p
+unfolding skip
+blank-space [] = refl
+blank-space (x ∷ p) = by (eqb x 32) (blank-space p) where
+  by : (b : Bool) → ended (skip (p ++ (32 ∷ []))) ≡ ended (skip p) → ended (cond b (skip (p ++ (32 ∷ []))) (x ∷ (p ++ (32 ∷ [])))) ≡ ended (cond b (skip p) (x ∷ p))
+  by true e = e
+  by false e = refl
+
+trim-space : (p : List ℕ) → trimmed (p ++ (32 ∷ [])) ≡ trimmed p
+unfolding trimmed
+trim-space [] = unfold skip in refl
+trim-space (x ∷ p) = rw (blank-space (x ∷ p), trim-space p)
+
+-- and a byte that is none leaves all
+not-blank : (p : List ℕ) (c : ℕ) → (c ≡ 32 → ⊥) → blank (p ++ (c ∷ [])) ≡ false
+unfolding skip
+not-blank [] c n = rw (ne-eqb c 32 n)
+not-blank (x ∷ p) c n = cond-case (λ (l : List ℕ). ended l ≡ false) (eqb x 32) (λ e. not-blank p c n) (λ e. refl)
+
+trim-other : (p : List ℕ) (c : ℕ) → (c ≡ 32 → ⊥) → trimmed (p ++ (c ∷ [])) ≡ p ++ (c ∷ [])
+unfolding trimmed
+trim-other [] c n = rw (not-blank [] c n)
+trim-other (x ∷ p) c n = rw (not-blank (x ∷ p) c n, trim-other p c n)
+
+-- the first n bytes end in byte n
+first-bytes : (s : List ℕ) (n : ℕ) → 0 < n → n ≤ length s → take n s ≡ take (n - 1) s ++ (getD s (n - 1) 0 ∷ [])
+first-bytes s zero h l = absurd (omega arith)
+first-bytes s (suc n) h l = rw sub-one (take-suc s n 0 l)
+
+pub trimmed-on : (s : List ℕ) (n : ℕ) → 0 < n → n ≤ length s → getD s (n - 1) 0 ≡ 32 → trimmed (take n s) ≡ trimmed (take (n - 1) s)
+trimmed-on s n h l e = ap trimmed (first-bytes s n h l) ∙ rw e (trim-space (take (n - 1) s))
+
+pub trimmed-off : (s : List ℕ) (n : ℕ) → 0 < n → n ≤ length s → (getD s (n - 1) 0 ≡ 32 → ⊥) → trimmed (take n s) ≡ take n s
+trimmed-off s n h l e = rw (first-bytes s n h l) (trim-other (take (n - 1) s) (getD s (n - 1) 0) e)

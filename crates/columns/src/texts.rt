@@ -4,9 +4,9 @@ use crate::sets::has;
 ghost use mathlib.Core.Path.{_≡_};
 ghost use mathlib.Core.Bool.{cond};
 ghost use Prim.Native.Nat.{_≤_};
-ghost use lib.ListN.{length, getD, drop, replicate};
+ghost use lib.ListN.{length, getD, take, drop, replicate};
 ghost use Rattle.columns.specs.Sets.{setOf};
-ghost use Rattle.columns.specs.Texts.{skip, blank, every, same, sized, textGood};
+ghost use Rattle.columns.specs.Texts.{skip, blank, trimmed, every, same, sized, textGood};
 
 // The byte at i, 0 past the end.
 pub fn byte(s: &[u8], i: usize) -> u8
@@ -105,4 +105,19 @@ pub fn write_text(s: &mut [u8], t: &[u8]) -> bool
     }
     bytes::copy(t, s);
     true
+}
+
+// How many bytes are left of a text with its trailing spaces off.
+pub fn trimmed_length(s: &[u8]) -> usize
+    ensures { λ r. ⌜ (r ≤ length (now (s .entry))) × (trimmed (now (s .entry)) ≡ take r (now (s .entry))) ⌝ }
+{
+    let mut n = s.len();
+    while 0 < n {
+        let last = n - 1;
+        if s[last] != b' ' {
+            return n;
+        }
+        n = last;
+    }
+    0
 }

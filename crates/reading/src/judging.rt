@@ -2,6 +2,7 @@
 use columns::dates::Dated;
 use columns::dates::read_date;
 use columns::decimals::Format;
+use columns::texts::{equal, is_blank, trimmed_length};
 use fields::codes::is_antenna;
 use fields::codes::is_basis;
 use fields::codes::is_carrier;
@@ -14,8 +15,7 @@ use fields::codes::is_service;
 use fields::codes::is_station_name;
 use fields::codes::is_status;
 use fields::codes::is_users;
-use fields::distances::is_height;
-use fields::distances::is_whole_filled;
+use fields::distances::{is_height, is_whole_filled, read_radius};
 use fields::emission::is_emission;
 use fields::frequencies::is_amount;
 use fields::frequencies::is_unit;
@@ -26,10 +26,14 @@ use fields::tenths::is_tenths;
 use filing::rules::first_broken;
 ghost use mathlib.Core.Path.{_≡_};
 ghost use lib.ListN.{length};
+ghost use mathlib.Core.Bool.{not};
 ghost use Rattle.columns.specs.Dates.{dayGood};
+ghost use Rattle.columns.specs.Texts.{blank, trimmed, endsIn};
 ghost use Rattle.fields.specs.Positions.{positionGood};
-ghost use Rattle.filing.specs.Rules.{firstBroken};
+ghost use Rattle.filing.specs.Rules.{All, firstBroken};
 ghost use Rattle.station.specs.Places.{fieldsOf};
+ghost use Rattle.station.specs.Between.{never, roundAntenna, firstBetween, lastBetween};
+ghost use Rattle.station.specs.Codes.{valueOf};
 ghost use Rattle.station.specs.Rules.{channelFields, siteFields, emissionFields, antennaFields, filingFields, fieldRules};
 
 // A date or blank.
@@ -155,4 +159,71 @@ fn field_code(rec: &[u8]) -> u8
         return antenna;
     }
     filing_code(rec)
+}
+
+// The two never stand together.
+fn never_both(x: bool, y: bool) -> bool
+    ensures { λ r. ⌜ r ≡ never x y ⌝ }
+{
+    if x { !y } else { true }
+}
+
+// Not all spaces.
+fn is_filled(s: &[u8]) -> bool
+    ensures { λ r. ⌜ r ≡ not (blank (now (s .entry))) ⌝ }
+{
+    !is_blank(s)
+}
+
+// 4A, trailing spaces off, ends in _R.
+fn is_repeater_name(s: &[u8]) -> bool
+    ensures { λ r. ⌜ r ≡ endsIn "_R" (trimmed (now (s .entry))) ⌝ }
+{
+    let n = trimmed_length(s);
+    if n < 2 {
+        return false;
+    }
+    let from = n - 2;
+    equal(b"_R", &s[from..n])
+}
+
+// The antenna type of no direction.
+fn is_round(s: &[u8]) -> bool
+    ensures { λ r. ⌜ r ≡ roundAntenna (now (s .entry)) ⌝ }
+{
+    equal(b"000ND00", s)
+}
+
+// Rules 31 to 34, where 1 to 30 hold.
+fn first_between(rec: &[u8]) -> u8
+    requires { ⌜ (length (now rec) ≡ 219) × All (fieldRules (fieldsOf (now rec))) ⌝ }
+    ensures { λ r. ⌜ r ≡ firstBroken 31 (firstBetween (valueOf (now (rec .entry)))) ⌝ }
+{
+    let silent = is_blank(&rec[0..11]);
+    let mobile = rec[13] == b'M';
+    let radius = read_radius(&rec[66..71]);
+    let rules = [
+        never_both(silent, is_blank(&rec[125..136])),
+        never_both(silent, is_filled(&rec[84..90])),
+        never_both(!mobile, radius.0 != 0),
+        never_both(mobile, is_filled(&rec[91..96])),
+    ];
+    first_broken(&rules, 31)
+}
+
+// Rules 35 to 39, where 1 to 30 hold.
+fn last_between(rec: &[u8]) -> u8
+    requires { ⌜ (length (now rec) ≡ 219) × All (fieldRules (fieldsOf (now rec))) ⌝ }
+    ensures { λ r. ⌜ r ≡ firstBroken 35 (lastBetween (valueOf (now (rec .entry)))) ⌝ }
+{
+    let mobile = rec[13] == b'M';
+    let repeater = equal(b"FL", &rec[13..15]);
+    let rules = [
+        never_both(is_blank(&rec[91..96]), !is_round(&rec[111..118])),
+        never_both(is_blank(&rec[96..101]), !is_round(&rec[118..125])),
+        never_both(mobile, is_filled(&rec[71..75])),
+        never_both(is_filled(&rec[125..136]), is_blank(&rec[103..107])),
+        never_both(repeater, !is_repeater_name(&rec[28..48])),
+    ];
+    first_broken(&rules, 35)
 }
