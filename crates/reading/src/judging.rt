@@ -2,7 +2,9 @@
 use columns::dates::Dated;
 use columns::dates::read_date;
 use columns::decimals::Format;
-use columns::texts::{equal, is_blank, trimmed_length};
+use columns::texts::equal;
+use columns::texts::is_blank;
+use columns::texts::trimmed_length;
 use fields::codes::is_antenna;
 use fields::codes::is_basis;
 use fields::codes::is_carrier;
@@ -15,7 +17,9 @@ use fields::codes::is_service;
 use fields::codes::is_station_name;
 use fields::codes::is_status;
 use fields::codes::is_users;
-use fields::distances::{is_height, is_whole_filled, read_radius};
+use fields::distances::is_height;
+use fields::distances::is_whole_filled;
+use fields::distances::read_radius;
 use fields::emission::is_emission;
 use fields::frequencies::is_amount;
 use fields::frequencies::is_unit;
@@ -23,6 +27,7 @@ use fields::positions::Located;
 use fields::positions::read_position;
 use fields::remarks::is_remarks;
 use fields::tenths::is_tenths;
+use filing::Outcome;
 use filing::rules::first_broken;
 ghost use mathlib.Core.Path.{_≡_};
 ghost use lib.ListN.{length};
@@ -33,7 +38,8 @@ ghost use Rattle.fields.specs.Positions.{positionGood};
 ghost use Rattle.filing.specs.Rules.{All, firstBroken};
 ghost use Rattle.station.specs.Places.{fieldsOf};
 ghost use Rattle.station.specs.Between.{never, roundAntenna, firstBetween, lastBetween};
-ghost use Rattle.station.specs.Codes.{valueOf};
+ghost use Rattle.station.specs.Calls.{readOutcome};
+ghost use Rattle.station.specs.Codes.{valueOf, stationCode};
 ghost use Rattle.station.specs.Rules.{channelFields, siteFields, emissionFields, antennaFields, filingFields, fieldRules};
 
 // A date or blank.
@@ -226,4 +232,34 @@ fn last_between(rec: &[u8]) -> u8
         never_both(repeater, !is_repeater_name(&rec[28..48])),
     ];
     first_broken(&rules, 35)
+}
+
+// The first broken rule of a record, 0 where none is.
+pub fn station_code(rec: &[u8]) -> u8
+    requires { ⌜ length (now rec) ≡ 219 ⌝ }
+    ensures { λ r. ⌜ r ≡ stationCode (now (rec .entry)) ⌝ }
+{
+    let field = field_code(rec);
+    if field != 0 {
+        return field;
+    }
+    let first = first_between(rec);
+    if first != 0 {
+        return first;
+    }
+    last_between(rec)
+}
+
+// Whether a record of any length can be read: 6, 9 with its code, or done.
+pub fn check_station(rec: &[u8]) -> Outcome
+    ensures { λ r. ⌜ r ≡ readOutcome (now (rec .entry)) ⌝ }
+{
+    if rec.len() != 219 {
+        return Outcome::RecordLength;
+    }
+    let code = station_code(rec);
+    if code == 0 {
+        return Outcome::Done;
+    }
+    Outcome::RuleBroken(code)
 }

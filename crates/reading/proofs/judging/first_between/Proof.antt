@@ -114,11 +114,24 @@ returns c =
     let r = now (s .args .rec) in
     let holds : (k : ℕ) → getD (fieldRules (fieldsOf r)) (k - 1) true ≡ true = rule (fieldRules (fieldsOf r)) (s .pre .1) in
     c .first-broken .ensures
-    ∙ rw (n1 .never-both .ensures, n2 .never-both2 .ensures, n3 .never-both3 .ensures, n4 .never-both4 .ensures,
-      b1 .is-blank .ensures, b2 .is-blank2 .ensures, n2 .before .is-filled .ensures, n4 .before .is-filled2 .ensures, rr .read-radius .ensures,
-      frequency-given (take 11 r) (take 1 (drop 11 r)) (holds 1), frequency-given (take 11 (drop 125 r)) (take 1 (drop 136 r)) (holds 24),
-      tenths-given 3 1 true anyNumber (take 6 (drop 84 r)) (holds 15), tenths-given 3 1 false (upTo 3599) (take 5 (drop 91 r)) (holds 17),
-      head-field 2 13 r (omega arith), Bool·not-not (blank (take 11 r)), Bool·not-not (blank (take 11 (drop 125 r))))
+    ∙ rw (
+      n1 .never-both .ensures,
+      n2 .never-both2 .ensures,
+      n3 .never-both3 .ensures,
+      n4 .never-both4 .ensures,
+      b1 .is-blank .ensures,
+      b2 .is-blank2 .ensures,
+      n2 .before .is-filled .ensures,
+      n4 .before .is-filled2 .ensures,
+      rr .read-radius .ensures,
+      frequency-given (take 11 r) (take 1 (drop 11 r)) (holds 1),
+      frequency-given (take 11 (drop 125 r)) (take 1 (drop 136 r)) (holds 24),
+      tenths-given 3 1 true anyNumber (take 6 (drop 84 r)) (holds 15),
+      tenths-given 3 1 false (upTo 3599) (take 5 (drop 91 r)) (holds 17),
+      head-field 2 13 r (omega arith),
+      Bool·not-not (blank (take 11 r)),
+      Bool·not-not (blank (take 11 (drop 125 r))),
+    )
 
 pub first-between-spec : {M : Type 1} → statement M
 first-between-spec =

@@ -1,0 +1,64 @@
+-- `reading::judging::station_code` meets its contract: the rules between fields are asked where the thirty hold. Assumes nothing.
+use mathlib.Core.Path.{_≡_, sym, _∙_}
+use mathlib.Core.List.{_++_}
+use denote.Ref.{now}
+use Rattle.filing.specs.Rules.{All, firstBroken}
+use Rattle.filing.proofs.RuleLaws.{all-hold, group-on, group-off}
+use Rattle.station.specs.Places.{fieldsOf}
+use Rattle.station.specs.Rules.{channelFields, siteFields, emissionFields, antennaFields, filingFields, fieldRules}
+use Rattle.station.specs.Between.{firstBetween, lastBetween, betweenRules}
+use Rattle.station.specs.Codes.{valueOf, stationCode}
+use borrow.Author.Needs.{needs}
+use Rattle.reading.proofs.judging.station_code.Statement.{statement}
+use Rattle.reading.proofs.judging.station_code.Tie as tie
+
+-- the thirty hold
+hold : (c : tie.Else1) → All (fieldRules (fieldsOf (now (c .before .before .before .args .rec))))
+hold c = all-hold 0 (fieldRules (fieldsOf (now (c .before .before .before .args .rec)))) (sym (c .before .field-code .ensures) ∙ c .if1 .left)
+
+-- and then the rules between fields are asked
+past-1 : (c : tie.Else1) → let r = now (c .before .before .before .args .rec) in stationCode r ≡ firstBroken 31 (firstBetween (valueOf r) ++ lastBetween (valueOf r))
+unfolding stationCode betweenRules firstBetween lastBetween fieldRules channelFields siteFields emissionFields antennaFields filingFields
+past-1 c =
+    let r = now (c .before .before .before .args .rec) in
+    group-on 0 (fieldRules (fieldsOf r)) (betweenRules (valueOf r)) (sym (c .before .field-code .ensures) ∙ c .if1 .left)
+
+past-2 : (c : tie.Else2) → let r = now (c .before .before .before .before .before .args .rec) in stationCode r ≡ firstBroken 35 (lastBetween (valueOf r))
+unfolding stationCode betweenRules firstBetween lastBetween fieldRules channelFields siteFields emissionFields antennaFields filingFields
+past-2 c =
+    let r = now (c .before .before .before .before .before .args .rec) in
+    past-1 (c .before .before) ∙ group-on 30 (firstBetween (valueOf r)) (lastBetween (valueOf r)) (sym (c .before .first-between .ensures) ∙ c .if2 .left)
+
+field-code-requires : tie.Need-field-code-requires
+field-code-requires c κs = search needs
+
+returns : tie.Need-returns
+unfolding stationCode
+returns c =
+    let r = now (c .before .before .before .args .rec) in
+    c .before .field-code .ensures ∙ sym (group-off 0 (fieldRules (fieldsOf r)) (betweenRules (valueOf r)) (λ e. c .if1 .taken (c .before .field-code .ensures ∙ e)))
+
+first-between-requires : tie.Need-first-between-requires
+first-between-requires c κs = (c .before .before .before .pre, hold c)
+
+returns-2 : tie.Need-returns-2
+returns-2 c =
+    let v = valueOf (now (c .before .before .before .before .before .args .rec)) in
+    c .before .first-between .ensures ∙ sym (past-1 (c .before .before) ∙ group-off 30 (firstBetween v) (lastBetween v) (λ e. c .if2 .taken (c .before .first-between .ensures ∙ e)))
+
+last-between-requires : tie.Need-last-between-requires
+last-between-requires c κs = (c .before .before .before .before .before .pre, hold (c .before .before))
+
+returns-3 : tie.Need-returns-3
+returns-3 c = c .last-between .ensures ∙ sym (past-2 (c .before))
+
+pub station-code-spec : {M : Type 1} → statement M
+station-code-spec =
+    tie.close
+    (tie.spec
+    field-code-requires
+    returns
+    first-between-requires
+    returns-2
+    last-between-requires
+    returns-3)
