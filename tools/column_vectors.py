@@ -206,4 +206,5 @@ def main():
     print(n)
 
 
-main()
+if __name__ == "__main__":
+    main()

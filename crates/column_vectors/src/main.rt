@@ -7,7 +7,6 @@ use columns::numbers::Signed;
 use columns::numbers::Whole;
 use columns::sets::Set;
 use fields::positions::Located;
-ghost use Prim.Native.Nat.{_<_};
 
 // Writes to standard output.
 fn put(s: &[u8]) {
@@ -256,55 +255,26 @@ fn answer(kind: u8, s: &[u8]) {
     put(b" no such kind\n");
 }
 
-// The width of a vector: its three digits, 0 where they are none.
-fn width(s: &[u8]) -> usize
-    ensures { λ r. ⌜ r < 1000 ⌝ }
-{
-    match columns::numbers::read_whole(s) {
-        Whole::Filled(v) => {
-            if v < 1000 {
-                return v as usize;
-            }
-            0
-        }
-        Whole::Blank => 0,
-        Whole::Bad => 0,
-    }
-}
-
 // All vectors, and how many there were.
 fn run(s: &[u8]) {
     let mut at: usize = 0;
     let mut count: u64 = 0;
     while at < s.len() {
         let rest = &s[at..];
-        let used = one(rest);
-        if used == 0 {
+        let e = vector_lines::bytes_end(rest);
+        if e < 5 {
             put(b"cut short\n");
             return;
         }
-        if used > s.len() - at {
+        if e >= rest.len() {
             return;
         }
-        at += used;
+        answer(rest[0], &rest[5..e]);
+        at += e + 1;
         count += 1;
     }
     io::print_decimal(1, count);
     put(b" vectors\n");
-}
-
-// The first vector of a text: answers how many bytes it takes, 0 where it is cut short.
-fn one(s: &[u8]) -> usize {
-    if s.len() < 6 {
-        return 0;
-    }
-    let w = width(&s[1..4]);
-    let e = 5 + w;
-    if s.len() <= e {
-        return 0;
-    }
-    answer(s[0], &s[5..e]);
-    e + 1
 }
 
 fn main() {
