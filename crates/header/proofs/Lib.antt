@@ -1,0 +1,3 @@
+pub mod SerialColumn
+pub mod OrderLaws
+pub mod RoundTrip
