@@ -1,3 +1,4 @@
 pub mod SerialColumn
-pub mod OrderLaws
 pub mod RoundTrip
+pub mod OrderLaws
+pub mod FiledLaws

@@ -1,7 +1,9 @@
 // A header as typed values.
 use columns::dates::Day;
 
+pub mod judging;
 pub mod places;
+mod values;
 
 // The header's own file number, field 12, which may be left out.
 pub enum Serial {

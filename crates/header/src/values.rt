@@ -1,0 +1,66 @@
+// The values of single fields, as the header's rules take them.
+use crate::Serial;
+use columns::dates::Dated;
+use columns::dates::read_date;
+use columns::numbers::Whole;
+use columns::numbers::read_whole;
+ghost use mathlib.Core.Path.{_≡_};
+ghost use Rattle.columns.specs.Sets.{is};
+ghost use Rattle.columns.specs.Texts.{byteGood};
+ghost use Rattle.columns.specs.Numbers.{wholeOf, wholeFilled, amount};
+ghost use Rattle.columns.specs.Dates.{dateGood};
+ghost use Rattle.header.specs.Values.{serialPasses, inSerial, serialGood};
+
+// A whole number is there.
+pub(crate) fn is_whole(s: &[u8]) -> bool
+    ensures { λ r. ⌜ r ≡ wholeFilled (wholeOf (now (s .entry))) ⌝ }
+{
+    match read_whole(s) {
+        Whole::Bad => false,
+        Whole::Blank => false,
+        Whole::Filled(_) => true,
+    }
+}
+
+// The whole number that is there, 0 where there is none.
+pub(crate) fn amount_in(s: &[u8]) -> u64
+    ensures { λ r. ⌜ r ≡ amount (wholeOf (now (s .entry))) ⌝ }
+{
+    match read_whole(s) {
+        Whole::Bad => 0,
+        Whole::Blank => 0,
+        Whole::Filled(v) => v,
+    }
+}
+
+// Field 3: the letter O.
+pub(crate) fn is_letter(s: &[u8]) -> bool
+    ensures { λ r. ⌜ r ≡ byteGood (is "O") (now (s .entry)) ⌝ }
+{
+    if s.len() != 1 {
+        return false;
+    }
+    s[0] == b'O'
+}
+
+// Field 10: a date, which may not be blank.
+pub(crate) fn is_filled(s: &[u8]) -> bool
+    ensures { λ r. ⌜ r ≡ dateGood (now (s .entry)) ⌝ }
+{
+    match read_date(s) {
+        Dated::Bad => false,
+        Dated::Blank => false,
+        Dated::Filled(_) => true,
+    }
+}
+
+// Field 12: a whole number, or blank.
+pub(crate) fn is_serial(s: &[u8]) -> bool
+    ensures { λ r. ⌜ r ≡ serialGood (now (s .entry)) ⌝ }
+{
+    match read_whole(s) {
+        Whole::Bad => false,
+        Whole::Blank => true,
+        Whole::Filled(_) => true,
+    }
+}
