@@ -3,6 +3,7 @@ use columns::dates::Day;
 
 pub mod judging;
 pub mod places;
+pub mod reading;
 mod values;
 
 // The header's own file number, field 12, which may be left out.

@@ -1,6 +1,7 @@
 // The values of single fields, as the header's rules take them.
 use crate::Serial;
 use columns::dates::Dated;
+use columns::dates::Day;
 use columns::dates::read_date;
 use columns::numbers::Whole;
 use columns::numbers::read_whole;
@@ -8,8 +9,8 @@ ghost use mathlib.Core.Path.{_≡_};
 ghost use Rattle.columns.specs.Sets.{is};
 ghost use Rattle.columns.specs.Texts.{byteGood};
 ghost use Rattle.columns.specs.Numbers.{wholeOf, wholeFilled, amount};
-ghost use Rattle.columns.specs.Dates.{dateGood};
-ghost use Rattle.header.specs.Values.{serialPasses, inSerial, serialGood};
+ghost use Rattle.columns.specs.Dates.{dateGood, dayOf};
+ghost use Rattle.header.specs.Values.{serialGood, serialOf};
 
 // A whole number is there.
 pub(crate) fn is_whole(s: &[u8]) -> bool
@@ -62,5 +63,27 @@ pub(crate) fn is_serial(s: &[u8]) -> bool
         Whole::Bad => false,
         Whole::Blank => true,
         Whole::Filled(_) => true,
+    }
+}
+
+// The date that is there, blank where there is none.
+pub(crate) fn day_in(s: &[u8]) -> Day
+    ensures { λ r. ⌜ r ≡ dayOf (now (s .entry)) ⌝ }
+{
+    match read_date(s) {
+        Dated::Bad => Day::Blank,
+        Dated::Blank => Day::Blank,
+        Dated::Filled(d) => Day::Filled(d),
+    }
+}
+
+// The file number that is there, blank where there is none.
+pub(crate) fn serial_in(s: &[u8]) -> Serial
+    ensures { λ r. ⌜ r ≡ serialOf (now (s .entry)) ⌝ }
+{
+    match read_whole(s) {
+        Whole::Bad => Serial::Blank,
+        Whole::Blank => Serial::Blank,
+        Whole::Filled(v) => Serial::Filled(v),
     }
 }
