@@ -3,3 +3,4 @@ pub mod RoundTrip
 pub mod OrderLaws
 pub mod FiledLaws
 pub mod CallLaws
+pub mod WriteLaws

@@ -8,6 +8,7 @@ use native.Mathlib.Omega.{arith}
 use lib.ListN.{length, getD, replicate}
 use Rattle.columns.specs.Sets.{is, isText, isMail}
 use Rattle.columns.specs.Texts.{bytes, same, textGood}
+use Rattle.columns.specs.Dates.{dateFits}
 use Rattle.columns.proofs.ColumnLaws.{Column, text-column, same-sized, text-sized, byte-column, whole-column, date-column}
 use Rattle.filing.specs.Fields.{recordLength, at}
 use Rattle.filing.specs.Rules.{All}
@@ -74,6 +75,11 @@ module _ (f : List (List ℕ)) (w : Wide headerPlaces f) (a : All (headerRules f
   unfolding headerRules typedHeaderRules headerOf
   fits-read =
       ((whole-column 2 (omega arith) (omega arith)) .read (at f 1) (width 1) (unbroken 1), ((text-of 80 isText) .read (at f 2) (width 2) (unbroken 2), ((byte-column (is "O")) .read (at f 3) (width 3) (unbroken 3), ((literal (bytes "AUT")) .read (at f 4) (width 4) (unbroken 4), ((text-of 40 isMail) .read (at f 5) (width 5) (unbroken 5), ((text-of 20 isText) .read (at f 6) (width 6) (unbroken 6), ((text-of 20 isText) .read (at f 7) (width 7) (unbroken 7), ((text-of 20 isText) .read (at f 8) (width 8) (unbroken 8), ((whole-column 6 (omega arith) (omega arith)) .read (at f 9) (width 9) (unbroken 9), (date-column .read (at f 10) (width 10) (unbroken 10), ((literal (bytes "AUT")) .read (at f 11) (width 11) (unbroken 11), (serial-column .read (at f 12) (width 12) (unbroken 12), ((literal (bytes "1.0")) .read (at f 13) (width 13) (unbroken 13), ((literal (replicate 7 32)) .read (at f 14) (width 14) (unbroken 14), tt))))))))))))))
+
+-- A header that breaks no rule has a date.
+pub date-fits : (h : Header) → typedHeaderCode h ≡ 0 → dateFits (h .date) ≡ true
+unfolding typedHeaderCode typedHeaderRules
+date-fits h e = holds h (all-hold 0 (typedHeaderRules h) e) 10
 
 -- A header that breaks no rule is written as a record that breaks none,
 pub write-keeps : (h : Header) → typedHeaderCode h ≡ 0 → headerCode (spellHeader h) ≡ 0

@@ -5,6 +5,7 @@ pub mod judging;
 pub mod places;
 pub mod reading;
 mod values;
+pub mod writing;
 
 // The header's own file number, field 12, which may be left out.
 pub enum Serial {

@@ -2,15 +2,17 @@
 use crate::Serial;
 use columns::dates::Dated;
 use columns::dates::Day;
+use columns::dates::is_date;
 use columns::dates::read_date;
 use columns::numbers::Whole;
+use columns::numbers::fits_whole;
 use columns::numbers::read_whole;
 ghost use mathlib.Core.Path.{_≡_};
 ghost use Rattle.columns.specs.Sets.{is};
 ghost use Rattle.columns.specs.Texts.{byteGood};
 ghost use Rattle.columns.specs.Numbers.{wholeOf, wholeFilled, amount};
-ghost use Rattle.columns.specs.Dates.{dateGood, dayOf};
-ghost use Rattle.header.specs.Values.{serialGood, serialOf};
+ghost use Rattle.columns.specs.Dates.{dateGood, dayOf, dateFits};
+ghost use Rattle.header.specs.Values.{serialGood, serialOf, serialFits};
 
 // A whole number is there.
 pub(crate) fn is_whole(s: &[u8]) -> bool
@@ -34,6 +36,13 @@ pub(crate) fn amount_in(s: &[u8]) -> u64
     }
 }
 
+// The letter O, not the digit 0.
+pub(crate) fn is_o(c: u8) -> bool
+    ensures { λ r. ⌜ r ≡ is "O" c ⌝ }
+{
+    c == b'O'
+}
+
 // Field 3: the letter O.
 pub(crate) fn is_letter(s: &[u8]) -> bool
     ensures { λ r. ⌜ r ≡ byteGood (is "O") (now (s .entry)) ⌝ }
@@ -41,7 +50,7 @@ pub(crate) fn is_letter(s: &[u8]) -> bool
     if s.len() != 1 {
         return false;
     }
-    s[0] == b'O'
+    is_o(s[0])
 }
 
 // Field 10: a date, which may not be blank.
@@ -85,5 +94,25 @@ pub(crate) fn serial_in(s: &[u8]) -> Serial
         Whole::Bad => Serial::Blank,
         Whole::Blank => Serial::Blank,
         Whole::Filled(v) => Serial::Filled(v),
+    }
+}
+
+// A typed date can stand: it may not be blank.
+pub(crate) fn fits_date(v: Day) -> bool
+    ensures { λ r. ⌜ r ≡ dateFits v ⌝ }
+{
+    match v {
+        Day::Blank => false,
+        Day::Filled(d) => is_date(d),
+    }
+}
+
+// A typed file number has its digits' places, or is blank.
+pub(crate) fn fits_serial(v: Serial) -> bool
+    ensures { λ r. ⌜ r ≡ serialFits v ⌝ }
+{
+    match v {
+        Serial::Blank => true,
+        Serial::Filled(n) => fits_whole(6, n),
     }
 }

@@ -1,9 +1,8 @@
 -- `header::values::is_letter` meets its contract: a column of another width fails, and one byte is tested itself. Assumes nothing.
-use mathlib.Core.Path.{_≡_, refl, sym, ap}
+use mathlib.Core.Path.{_≡_, refl, sym, _∙_}
 use mathlib.Core.Bool.{Bool, false, and-true, and-false}
 use mathlib.Core.List.{List, [], _∷_}
 use Prim.Native.Nat.{ℕ, suc}
-use lib.Dec.{eqb}
 use lib.ListN.{length, getD}
 use Rattle.columns.specs.Texts.{each, byteGood}
 use borrow.Author.Needs.{needs}
@@ -28,11 +27,14 @@ one-byte test (x ∷ y ∷ p) e = let z : suc (suc (length p)) ≡ 1 = e in absu
 returns : tie.Need-returns
 returns c = wrong-width _ _ (c .if1 .taken)
 
-shared-slice-read-result : tie.Need-shared-slice-read-result
-shared-slice-read-result c = search needs
+shared-slice-read-is-o : tie.Need-shared-slice-read-is-o
+shared-slice-read-is-o c = search needs
+
+is-o-requires : tie.Need-is-o-requires
+is-o-requires c κs = search needs
 
 returns-2 : tie.Need-returns-2
-returns-2 c = one-byte _ _ (c .before .if1 .left)
+returns-2 c = c .is-o .ensures ∙ one-byte _ _ (c .before .before .if1 .left)
 
 pub is-letter-spec : {M : Type 1} → statement M
-is-letter-spec = tie.close (tie.spec returns shared-slice-read-result returns-2)
+is-letter-spec = tie.close (tie.spec returns shared-slice-read-is-o is-o-requires returns-2)
