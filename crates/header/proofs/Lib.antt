@@ -4,3 +4,4 @@ pub mod OrderLaws
 pub mod FiledLaws
 pub mod CallLaws
 pub mod WriteLaws
+pub mod Unique

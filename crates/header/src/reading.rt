@@ -12,7 +12,7 @@ ghost use mathlib.Core.Path.{_≡_};
 ghost use lib.ListN.{length};
 ghost use Rattle.header.specs.Values.{emptyHeader};
 ghost use Rattle.header.specs.Codes.{headerValue};
-ghost use Rattle.header.specs.Calls.{readHeaderOutcome, readHeader};
+ghost use Rattle.header.specs.Promises.{HeaderRead};
 
 // How reading ended, and the header: the empty one on a refusal.
 pub struct ReadHeader {
@@ -139,8 +139,7 @@ pub fn empty_header() -> Header
 
 // Reads a header's record; it is refused where it has not 219 bytes, or breaks a rule.
 pub fn read_header(rec: &[u8]) -> ReadHeader
-    ensures { λ r. ⌜ r .outcome ≡ readHeaderOutcome (now (rec .entry)) ⌝ }
-    ensures { λ r. ⌜ r .header ≡ readHeader (now (rec .entry)) ⌝ }
+    ensures { λ r. ⌜ HeaderRead (now (rec .entry)) r ⌝ }
 {
     if rec.len() != 219 {
         return ReadHeader {

@@ -25,7 +25,7 @@ ghost use Rattle.header.specs.Rules.{typedHeaderRules};
 ghost use Rattle.header.specs.Values.{spellSerial};
 ghost use Rattle.header.specs.Spelling.{headerPieces, spellHeader};
 ghost use Rattle.header.specs.Codes.{typedHeaderCode};
-ghost use Rattle.header.specs.Calls.{writeHeaderOutcome, writtenHeader};
+ghost use Rattle.header.specs.Promises.{HeaderWritten};
 
 // The first broken code of 1 to 7, what the file is and who sent it; 0 means none.
 fn typed_sender_code(h: Header) -> u8
@@ -198,8 +198,7 @@ fn put_header(h: Header, s: &mut [u8])
 
 // Writes a header into a lent buffer; it is refused where that has not 219 bytes, or the header breaks a rule, and then nothing is written.
 pub fn write_header(h: Header, buffer: &mut [u8]) -> Outcome
-    ensures { λ r. ⌜ r ≡ writeHeaderOutcome h (now (buffer .entry)) ⌝ }
-    ensures { λ _. ⌜ now (buffer .exit) ≡ writtenHeader h (now (buffer .entry)) ⌝ }
+    ensures { λ r. ⌜ HeaderWritten h (now (buffer .entry)) r (now (buffer .exit)) ⌝ }
 {
     if buffer.len() != 219 {
         return Outcome::BufferLength;
