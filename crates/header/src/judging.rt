@@ -89,9 +89,9 @@ pub fn filed_header_code(rec: &[u8], n: usize) -> u8
     requires { ⌜ length (now rec) ≡ 219 ⌝ }
     ensures { λ r. ⌜ r ≡ filedHeaderCode (now (rec .entry)) n ⌝ }
 {
-    let code = header_code(rec);
-    if code != 0 {
-        return code;
+    let own = header_code(rec);
+    if own != 0 {
+        return own;
     }
     if amount_in(&rec[186..192]) != n as u64 {
         return 15;
