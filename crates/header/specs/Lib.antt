@@ -4,3 +4,4 @@ pub mod Values
 pub mod Spelling
 pub mod Codes
 pub mod Calls
+pub mod Promises

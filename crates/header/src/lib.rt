@@ -1,7 +1,11 @@
 // A header as typed values.
 use columns::dates::Day;
 
+pub mod judging;
 pub mod places;
+pub mod reading;
+mod values;
+pub mod writing;
 
 // The header's own file number, field 12, which may be left out.
 pub enum Serial {

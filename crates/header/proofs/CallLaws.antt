@@ -1,0 +1,39 @@
+-- How a call on a record ends: refused for the record's length, refused for a broken rule, or done.
+-- Assumes nothing.
+use mathlib.Core.Path.{_≡_, refl, sym, _∙_}
+use mathlib.Core.Bool.{Bool, false, cond}
+use mathlib.Core.List.{List}
+use Prim.Native.Nat.{ℕ}
+use lib.Dec.{eqb}
+use lib.ListN.{length}
+use borrow.Author.Tests.{eq-eqb, ne-eqb}
+use Rattle.columns.specs.Texts.{sized}
+use Rattle.filing.specs.Fields.{recordLength}
+use Rattle.filing.specs.Outcomes.{refusal, ifDone, judged}
+use Rattle.filing.specs.declared.Outcome.{Outcome}
+use Rattle.filing.specs.declared.Outcome.the-variants as outcome
+
+-- How it ends on s, whose code is k, where `short` refuses another length.
+abbrev pub ending : List ℕ → ℕ → Outcome → Outcome
+ending s k short = cond (sized recordLength s) (judged k) short
+
+-- The outcome, and what is there after it: x where the call is done, else y.
+abbrev pub Ended : {A : Type 0} → List ℕ → ℕ → Outcome → A → A → Outcome → A → Type 0
+Ended s k short x y o v = (o ≡ ending s k short) × (v ≡ ifDone (ending s k short) x y)
+
+module _ {A : Type 0} (s : List ℕ) (k : ℕ) (short : Outcome) (x y : A) {v : A} where
+  -- another length is refused,
+  pub wrong-length : (length s ≡ recordLength → ⊥) → eqb (refusal short) 0 ≡ false → v ≡ y → Ended s k short x y short v
+  unfolding ifDone
+  wrong-length n f e = rw (ne-eqb (length s) recordLength n, f) (refl, e)
+
+  module _ (l : length s ≡ recordLength) {a : ℕ} (d : a ≡ k) where
+    -- and so is a broken rule,
+    pub rule-broken : (a ≡ 0 → ⊥) → v ≡ y → Ended s k short x y (outcome.RuleBroken a) v
+    unfolding ifDone judged refusal
+    rule-broken n e = rw (eq-eqb (length s) recordLength l, ← d, ne-eqb a 0 n) (refl, e)
+
+    -- and where none is broken the call is done.
+    pub call-done : a ≡ 0 → v ≡ x → Ended s k short x y outcome.Done v
+    unfolding ifDone judged refusal
+    call-done z e = rw (eq-eqb (length s) recordLength l, ← d, eq-eqb a 0 z) (refl, e)

@@ -1,0 +1,52 @@
+-- Field 12, a whole number or blank, is a kind of column.
+-- Assumes nothing.
+use mathlib.Core.Path.{_≡_, refl, sym, ap, _∙_}
+use mathlib.Core.Bool.{Bool, true, false, false≢true}
+use mathlib.Core.List.{List}
+use Prim.Native.Nat.{ℕ, _^_, _<_}
+use native.Mathlib.Omega.{arith}
+use lib.ListN.{length, replicate}
+use borrow.Author.Tests.{ltb-true, lt-ltb}
+use Rattle.columns.specs.Numbers.{wholeOf, amount, wholeFits, spellWhole}
+use Rattle.columns.specs.declared.numbers.Whole.{Whole}
+use Rattle.columns.specs.declared.numbers.Whole.the-variants as whole
+use Rattle.columns.proofs.RoundTrip.{whole-trip}
+use Rattle.columns.proofs.ColumnLaws.{Column, whole-column, whole-below, skip-spaces}
+use Rattle.header.specs.Values.{serialPasses, inSerial, serialGood, serialOf, serialFits, spellSerial}
+use Rattle.header.specs.declared.Serial.{Serial}
+use Rattle.header.specs.declared.Serial.the-variants as serial
+
+-- a number that was spelt in six columns is read
+spelt : (v : ℕ) → wholeFits 6 v ≡ true → wholeOf (spellWhole 6 v) ≡ whole.Filled v
+spelt v e = whole-trip 6 v (omega arith) (omega arith) (ltb-true v (10 ^ 6) e)
+
+-- spaces are no number
+no-number : wholeOf (replicate 6 32) ≡ whole.Blank
+unfolding wholeOf
+no-number = rw (skip-spaces 6)
+
+wide : (v : Serial) → serialFits v ≡ true → length (spellSerial v) ≡ 6
+unfolding serialFits spellSerial
+wide serial.Blank e = refl
+wide (serial.Filled v) e = (whole-column 6 (omega arith) (omega arith)) .wide v e
+
+kept : (v : Serial) → serialFits v ≡ true → serialGood (spellSerial v) ≡ true
+unfolding serialFits spellSerial serialGood
+kept serial.Blank e = rw no-number
+kept (serial.Filled v) e = rw (spelt v e)
+
+back : (v : Serial) → serialFits v ≡ true → serialOf (spellSerial v) ≡ v
+unfolding serialFits spellSerial serialOf
+back serial.Blank e = rw no-number
+back (serial.Filled v) e = rw (spelt v e)
+
+-- a number that was read has six digits at most
+read-fits : (w : Whole) → amount w < 10 ^ 6 → serialFits (inSerial w) ≡ true
+unfolding serialFits
+read-fits whole.Bad h = refl
+read-fits whole.Blank h = refl
+read-fits (whole.Filled v) h = lt-ltb v (10 ^ 6) h
+
+pub serial-column : Column 6 serialGood serialOf serialFits spellSerial
+unfolding serialOf
+serial-column = record { wide = wide; kept = kept; back = back; read = λ p l e. read-fits (wholeOf p) (rw l at (whole-below p)) }

@@ -1,0 +1,31 @@
+-- `header::judging::header_code` meets its contract: the second group is judged where the first breaks no rule. Assumes nothing.
+use denote.Ref.{now}
+use lib.ListN.{take, drop}
+use Rattle.header.specs.Places.{headerFields}
+use Rattle.header.specs.Rules.{headerRules}
+use Rattle.header.specs.Codes.{headerCode}
+use Rattle.header.proofs.OrderLaws.{from-first, from-second}
+use borrow.Author.Needs.{needs}
+use Rattle.header.proofs.judging.header_code.Statement.{statement}
+use Rattle.header.proofs.judging.header_code.Tie as tie
+
+sender-code-requires : tie.Need-sender-code-requires
+sender-code-requires c κs = search needs
+
+returns : tie.Need-returns
+unfolding headerCode headerRules
+returns c =
+    let rules = headerRules (headerFields (now (c .before .before .before .args .rec))) in
+    from-first 0 (take 7 rules) (drop 7 rules) (c .before .sender-code .ensures) (c .if1 .taken)
+
+filing-code-requires : tie.Need-filing-code-requires
+filing-code-requires c κs = search needs
+
+returns-2 : tie.Need-returns-2
+unfolding headerCode headerRules
+returns-2 c =
+    let rules = headerRules (headerFields (now (c .before .before .before .before .args .rec))) in
+    from-second 0 (take 7 rules) (drop 7 rules) (c .before .before .sender-code .ensures) (c .before .if1 .left) (c .filing-code .ensures)
+
+pub header-code-spec : {M : Type 1} → statement M
+header-code-spec = tie.close (tie.spec sender-code-requires returns filing-code-requires returns-2)

@@ -1,0 +1,100 @@
+// The code of a header's record: its fields are judged in place, in the order of their codes.
+use crate::values::amount_in;
+use crate::values::is_filled;
+use crate::values::is_letter;
+use crate::values::is_serial;
+use crate::values::is_whole;
+use columns::sets::Set;
+use columns::texts::equal;
+use columns::texts::is_left_text;
+ghost use mathlib.Core.Path.{_≡_};
+ghost use lib.ListN.{length, take, drop};
+ghost use Rattle.filing.specs.Rules.{firstBroken};
+ghost use Rattle.header.specs.Places.{headerFields};
+ghost use Rattle.header.specs.Rules.{headerRules};
+ghost use Rattle.header.specs.Codes.{headerCode, filedHeaderCode};
+
+// The first broken code of 1 to 7, what the file is and who sent it; 0 means none.
+fn sender_code(rec: &[u8]) -> u8
+    requires { ⌜ length (now rec) ≡ 219 ⌝ }
+    ensures { λ r. ⌜ r ≡ firstBroken 1 (take 7 (headerRules (headerFields (now (rec .entry))))) ⌝ }
+{
+    if !is_whole(&rec[0..2]) {
+        return 1;
+    }
+    if !is_left_text(&rec[2..82], 80, Set::Text) {
+        return 2;
+    }
+    if !is_letter(&rec[82..83]) {
+        return 3;
+    }
+    if !equal(b"AUT", &rec[83..86]) {
+        return 4;
+    }
+    if !is_left_text(&rec[86..126], 40, Set::Mail) {
+        return 5;
+    }
+    if !is_left_text(&rec[126..146], 20, Set::Text) {
+        return 6;
+    }
+    if !is_left_text(&rec[146..166], 20, Set::Text) {
+        return 7;
+    }
+    0
+}
+
+// The first broken code of 8 to 14, the person, the count and how the file is filed; 0 means none.
+fn filing_code(rec: &[u8]) -> u8
+    requires { ⌜ length (now rec) ≡ 219 ⌝ }
+    ensures { λ r. ⌜ r ≡ firstBroken 8 (drop 7 (headerRules (headerFields (now (rec .entry))))) ⌝ }
+{
+    if !is_left_text(&rec[166..186], 20, Set::Text) {
+        return 8;
+    }
+    if !is_whole(&rec[186..192]) {
+        return 9;
+    }
+    if !is_filled(&rec[192..200]) {
+        return 10;
+    }
+    if !equal(b"AUT", &rec[200..203]) {
+        return 11;
+    }
+    if !is_serial(&rec[203..209]) {
+        return 12;
+    }
+    if !equal(b"1.0", &rec[209..212]) {
+        return 13;
+    }
+    if !equal(b"       ", &rec[212..219]) {
+        return 14;
+    }
+    0
+}
+
+// The first broken code of a header's record, 1 to 14; 0 means none.
+pub fn header_code(rec: &[u8]) -> u8
+    requires { ⌜ length (now rec) ≡ 219 ⌝ }
+    ensures { λ r. ⌜ r ≡ headerCode (now (rec .entry)) ⌝ }
+{
+    let code = sender_code(rec);
+    if code != 0 {
+        return code;
+    }
+    filing_code(rec)
+}
+
+// The code of a header in its file of n stations: 15 where it breaks no rule and its count is not n.
+pub fn filed_header_code(rec: &[u8], n: usize) -> u8
+    requires { ⌜ length (now rec) ≡ 219 ⌝ }
+    ensures { λ r. ⌜ r ≡ filedHeaderCode (now (rec .entry)) n ⌝ }
+{
+    let own = header_code(rec);
+    if own != 0 {
+        return own;
+    }
+    if amount_in(&rec[186..192]) != n as u64 {
+        return 15;
+    }
+    0
+}

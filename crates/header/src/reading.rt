@@ -1,0 +1,161 @@
+// A header read from its record.
+use crate::Header;
+use crate::Serial;
+use crate::judging::header_code;
+use crate::values::amount_in;
+use crate::values::day_in;
+use crate::values::serial_in;
+use columns::dates::Day;
+use columns::texts::byte;
+use filing::Outcome;
+ghost use mathlib.Core.Path.{_≡_};
+ghost use lib.ListN.{length};
+ghost use Rattle.header.specs.Values.{emptyHeader};
+ghost use Rattle.header.specs.Codes.{headerValue};
+ghost use Rattle.header.specs.Promises.{HeaderRead};
+
+// How reading ended, and the header: the empty one on a refusal.
+pub struct ReadHeader {
+    pub outcome: Outcome,
+    pub header: Header,
+}
+
+// Puts a text into columns of its own width.
+pub(crate) fn put_text(s: &mut [u8], t: &[u8])
+    requires { ⌜ length (now s) ≡ length (now t) ⌝ }
+    ensures { λ _. ⌜ now (s .exit) ≡ now (t .entry) ⌝ }
+{
+    bytes::copy(t, s);
+}
+
+// The text of three columns.
+fn text3(s: &[u8]) -> [u8; 3]
+    requires { ⌜ length (now s) ≡ 3 ⌝ }
+    ensures { λ r. ⌜ r ≡ now (s .entry) ⌝ }
+{
+    let mut a = [0u8; 3];
+    put_text(&mut a, s);
+    a
+}
+
+// The text of seven columns.
+fn text7(s: &[u8]) -> [u8; 7]
+    requires { ⌜ length (now s) ≡ 7 ⌝ }
+    ensures { λ r. ⌜ r ≡ now (s .entry) ⌝ }
+{
+    let mut a = [0u8; 7];
+    put_text(&mut a, s);
+    a
+}
+
+// The text of twenty columns.
+fn text20(s: &[u8]) -> [u8; 20]
+    requires { ⌜ length (now s) ≡ 20 ⌝ }
+    ensures { λ r. ⌜ r ≡ now (s .entry) ⌝ }
+{
+    let mut a = [0u8; 20];
+    put_text(&mut a, s);
+    a
+}
+
+// The text of forty columns.
+fn text40(s: &[u8]) -> [u8; 40]
+    requires { ⌜ length (now s) ≡ 40 ⌝ }
+    ensures { λ r. ⌜ r ≡ now (s .entry) ⌝ }
+{
+    let mut a = [0u8; 40];
+    put_text(&mut a, s);
+    a
+}
+
+// The text of eighty columns.
+fn text80(s: &[u8]) -> [u8; 80]
+    requires { ⌜ length (now s) ≡ 80 ⌝ }
+    ensures { λ r. ⌜ r ≡ now (s .entry) ⌝ }
+{
+    let mut a = [0u8; 80];
+    put_text(&mut a, s);
+    a
+}
+
+// The header that a record says.
+fn header_in(rec: &[u8]) -> Header
+    requires { ⌜ length (now rec) ≡ 219 ⌝ }
+    ensures { λ r. ⌜ r ≡ headerValue (now (rec .entry)) ⌝ }
+{
+    let number = amount_in(&rec[0..2]);
+    let content = text80(&rec[2..82]);
+    let letter = byte(&rec[82..83], 0);
+    let origin = text3(&rec[83..86]);
+    let mail = text40(&rec[86..126]);
+    let telephone = text20(&rec[126..146]);
+    let fax = text20(&rec[146..166]);
+    let person = text20(&rec[166..186]);
+    let count = amount_in(&rec[186..192]);
+    let date = day_in(&rec[192..200]);
+    let destination = text3(&rec[200..203]);
+    let serial = serial_in(&rec[203..209]);
+    let version = text3(&rec[209..212]);
+    let reserve = text7(&rec[212..219]);
+    Header {
+        number,
+        content,
+        letter,
+        origin,
+        mail,
+        telephone,
+        fax,
+        person,
+        count,
+        date,
+        destination,
+        serial,
+        version,
+        reserve,
+    }
+}
+
+// The empty header: numbers 0, date and file number blank, text all spaces.
+pub fn empty_header() -> Header
+    ensures { λ r. ⌜ r ≡ emptyHeader ⌝ }
+{
+    Header {
+        number: 0,
+        content: [b' '; 80],
+        letter: b' ',
+        origin: [b' '; 3],
+        mail: [b' '; 40],
+        telephone: [b' '; 20],
+        fax: [b' '; 20],
+        person: [b' '; 20],
+        count: 0,
+        date: Day::Blank,
+        destination: [b' '; 3],
+        serial: Serial::Blank,
+        version: [b' '; 3],
+        reserve: [b' '; 7],
+    }
+}
+
+// Reads a header's record; it is refused where it has not 219 bytes, or breaks a rule.
+pub fn read_header(rec: &[u8]) -> ReadHeader
+    ensures { λ r. ⌜ HeaderRead (now (rec .entry)) r ⌝ }
+{
+    if rec.len() != 219 {
+        return ReadHeader {
+            outcome: Outcome::RecordLength,
+            header: empty_header(),
+        };
+    }
+    let code = header_code(rec);
+    if code != 0 {
+        return ReadHeader {
+            outcome: Outcome::RuleBroken(code),
+            header: empty_header(),
+        };
+    }
+    ReadHeader {
+        outcome: Outcome::Done,
+        header: header_in(rec),
+    }
+}

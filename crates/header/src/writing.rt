@@ -1,0 +1,212 @@
+// A header written into a lent buffer, each field straight into its own columns.
+use crate::Header;
+use crate::Serial;
+use crate::reading::put_text;
+use crate::values::fits_date;
+use crate::values::fits_serial;
+use crate::values::is_o;
+use columns::dates::Day;
+use columns::dates::write_day;
+use columns::numbers::fits_whole;
+use columns::numbers::put_whole;
+use columns::sets::Set;
+use columns::texts::equal;
+use columns::texts::is_left_text;
+use columns::texts::write_blank;
+use filing::Outcome;
+ghost use mathlib.Core.Path.{_≡_};
+ghost use mathlib.Core.Bool.{true};
+ghost use mathlib.Core.List.{[], _∷_};
+ghost use lib.ListN.{length, take, drop};
+ghost use Rattle.columns.specs.Dates.{dateFits, spellDay};
+ghost use Rattle.filing.specs.Fields.{joined};
+ghost use Rattle.filing.specs.Rules.{firstBroken};
+ghost use Rattle.header.specs.Rules.{typedHeaderRules};
+ghost use Rattle.header.specs.Values.{spellSerial};
+ghost use Rattle.header.specs.Spelling.{headerPieces, spellHeader};
+ghost use Rattle.header.specs.Codes.{typedHeaderCode};
+ghost use Rattle.header.specs.Promises.{HeaderWritten};
+
+// The first broken code of 1 to 7, what the file is and who sent it; 0 means none.
+fn typed_sender_code(h: Header) -> u8
+    ensures { λ r. ⌜ r ≡ firstBroken 1 (take 7 (typedHeaderRules h)) ⌝ }
+{
+    if !fits_whole(2, h.number) {
+        return 1;
+    }
+    let content = h.content;
+    if !is_left_text(&content, 80, Set::Text) {
+        return 2;
+    }
+    if !is_o(h.letter) {
+        return 3;
+    }
+    let origin = h.origin;
+    if !equal(b"AUT", &origin) {
+        return 4;
+    }
+    let mail = h.mail;
+    if !is_left_text(&mail, 40, Set::Mail) {
+        return 5;
+    }
+    let telephone = h.telephone;
+    if !is_left_text(&telephone, 20, Set::Text) {
+        return 6;
+    }
+    let fax = h.fax;
+    if !is_left_text(&fax, 20, Set::Text) {
+        return 7;
+    }
+    0
+}
+
+// The first broken code of 8 to 14, the person, the count and how the file is filed; 0 means none.
+fn typed_filing_code(h: Header) -> u8
+    ensures { λ r. ⌜ r ≡ firstBroken 8 (drop 7 (typedHeaderRules h)) ⌝ }
+{
+    let person = h.person;
+    if !is_left_text(&person, 20, Set::Text) {
+        return 8;
+    }
+    if !fits_whole(6, h.count) {
+        return 9;
+    }
+    let date = h.date;
+    if !fits_date(date) {
+        return 10;
+    }
+    let destination = h.destination;
+    if !equal(b"AUT", &destination) {
+        return 11;
+    }
+    let serial = h.serial;
+    if !fits_serial(serial) {
+        return 12;
+    }
+    let version = h.version;
+    if !equal(b"1.0", &version) {
+        return 13;
+    }
+    let reserve = h.reserve;
+    if !equal(b"       ", &reserve) {
+        return 14;
+    }
+    0
+}
+
+// The first broken code of a typed header, 1 to 14; 0 means none.
+pub fn typed_header_code(h: Header) -> u8
+    ensures { λ r. ⌜ r ≡ typedHeaderCode h ⌝ }
+{
+    let code = typed_sender_code(h);
+    if code != 0 {
+        return code;
+    }
+    typed_filing_code(h)
+}
+
+// Field 3, in its one column.
+fn put_byte(s: &mut [u8], b: u8)
+    requires { ⌜ length (now s) ≡ 1 ⌝ }
+    ensures { λ _. ⌜ now (s .exit) ≡ b ∷ [] ⌝ }
+{
+    s[0] = b;
+}
+
+// Field 10, a date that keeps its rule.
+fn put_day(s: &mut [u8], v: Day)
+    requires { ⌜ (length (now s) ≡ 8) × (dateFits v ≡ true) ⌝ }
+    ensures { λ _. ⌜ now (s .exit) ≡ spellDay v ⌝ }
+{
+    write_day(s, v);
+}
+
+// Field 12, a number or blank.
+fn put_serial(s: &mut [u8], v: Serial)
+    requires { ⌜ length (now s) ≡ 6 ⌝ }
+    ensures { λ _. ⌜ now (s .exit) ≡ spellSerial v ⌝ }
+{
+    match v {
+        Serial::Blank => write_blank(s),
+        Serial::Filled(n) => put_whole(s, n),
+    }
+}
+
+// Fields 1 to 4, columns 1 to 86: what the file is.
+fn put_file(h: Header, s: &mut [u8])
+    requires { ⌜ length (now s) ≡ 86 ⌝ }
+    ensures { λ _. ⌜ now (s .exit) ≡ joined (take 4 (headerPieces h)) ⌝ }
+{
+    put_whole(&mut s[0..2], h.number);
+    let content = h.content;
+    put_text(&mut s[2..82], &content);
+    put_byte(&mut s[82..83], h.letter);
+    let origin = h.origin;
+    put_text(&mut s[83..86], &origin);
+}
+
+// Fields 5 to 8, columns 87 to 186: who sent it.
+fn put_sender(h: Header, s: &mut [u8])
+    requires { ⌜ length (now s) ≡ 100 ⌝ }
+    ensures { λ _. ⌜ now (s .exit) ≡ joined (take 4 (drop 4 (headerPieces h))) ⌝ }
+{
+    let mail = h.mail;
+    put_text(&mut s[0..40], &mail);
+    let telephone = h.telephone;
+    put_text(&mut s[40..60], &telephone);
+    let fax = h.fax;
+    put_text(&mut s[60..80], &fax);
+    let person = h.person;
+    put_text(&mut s[80..100], &person);
+}
+
+// Fields 9 to 11, columns 187 to 203: the count, the date and where it goes.
+fn put_sending(h: Header, s: &mut [u8])
+    requires { ⌜ (length (now s) ≡ 17) × (dateFits (h .date) ≡ true) ⌝ }
+    ensures { λ _. ⌜ now (s .exit) ≡ joined (take 3 (drop 8 (headerPieces h))) ⌝ }
+{
+    put_whole(&mut s[0..6], h.count);
+    let date = h.date;
+    put_day(&mut s[6..14], date);
+    let destination = h.destination;
+    put_text(&mut s[14..17], &destination);
+}
+
+// Fields 12 to 14, columns 204 to 219: the file number, the version and the reserve.
+fn put_end(h: Header, s: &mut [u8])
+    requires { ⌜ length (now s) ≡ 16 ⌝ }
+    ensures { λ _. ⌜ now (s .exit) ≡ joined (drop 11 (headerPieces h)) ⌝ }
+{
+    let serial = h.serial;
+    put_serial(&mut s[0..6], serial);
+    let version = h.version;
+    put_text(&mut s[6..9], &version);
+    let reserve = h.reserve;
+    put_text(&mut s[9..16], &reserve);
+}
+
+// Writes a header that breaks no rule.
+fn put_header(h: Header, s: &mut [u8])
+    requires { ⌜ (length (now s) ≡ 219) × (typedHeaderCode h ≡ 0) ⌝ }
+    ensures { λ _. ⌜ now (s .exit) ≡ spellHeader h ⌝ }
+{
+    put_file(h, &mut s[0..86]);
+    put_sender(h, &mut s[86..186]);
+    put_sending(h, &mut s[186..203]);
+    put_end(h, &mut s[203..219]);
+}
+
+// Writes a header into a lent buffer; it is refused where that has not 219 bytes, or the header breaks a rule, and then nothing is written.
+pub fn write_header(h: Header, buffer: &mut [u8]) -> Outcome
+    ensures { λ r. ⌜ HeaderWritten h (now (buffer .entry)) r (now (buffer .exit)) ⌝ }
+{
+    if buffer.len() != 219 {
+        return Outcome::BufferLength;
+    }
+    let code = typed_header_code(h);
+    if code != 0 {
+        return Outcome::RuleBroken(code);
+    }
+    put_header(h, buffer);
+    Outcome::Done
+}
