@@ -1,3 +1,5 @@
+pub mod CallLaws
 pub mod FieldLaws
 pub mod RuleLaws
 pub mod Tables
+pub mod WriteLaws

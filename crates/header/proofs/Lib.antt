@@ -2,6 +2,4 @@ pub mod SerialColumn
 pub mod RoundTrip
 pub mod OrderLaws
 pub mod FiledLaws
-pub mod CallLaws
-pub mod WriteLaws
 pub mod Unique

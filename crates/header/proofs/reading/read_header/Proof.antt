@@ -6,7 +6,7 @@ use Rattle.filing.specs.declared.Outcome.the-variants as outcome
 use Rattle.header.specs.Values.{emptyHeader}
 use Rattle.header.specs.Codes.{headerValue, headerCode}
 use Rattle.header.specs.Calls.{readHeaderOutcome, readHeader}
-use Rattle.header.proofs.CallLaws.{wrong-length, rule-broken, call-done}
+use Rattle.filing.proofs.CallLaws.{wrong-length, rule-broken, call-done}
 use borrow.Author.Needs.{needs}
 use Rattle.header.proofs.reading.read_header.Statement.{statement}
 use Rattle.header.proofs.reading.read_header.Tie as tie

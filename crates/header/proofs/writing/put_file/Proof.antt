@@ -5,7 +5,7 @@ use Prim.Native.Nat.{ℕ}
 use mathlib.Core.List.{[], _∷_}
 use Rattle.columns.specs.Numbers.{spellWhole}
 use Rattle.header.specs.Spelling.{headerPieces}
-use Rattle.header.proofs.WriteLaws.{nothing-yet, then-one, then-sized, all-written}
+use Rattle.filing.proofs.WriteLaws.{nothing-yet, then-one, then-sized, all-written}
 use borrow.Author.Needs.{needs}
 use native.Mathlib.Omega.{arith}
 use Rattle.header.proofs.writing.put_file.Statement.{statement}

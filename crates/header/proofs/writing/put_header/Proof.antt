@@ -3,7 +3,7 @@ use mathlib.Core.Path.{_≡_}
 use lib.ListN.{length, take, drop}
 use Rattle.header.proofs.RoundTrip.{date-fits}
 use Rattle.header.specs.Spelling.{headerPieces, spellHeader}
-use Rattle.header.proofs.WriteLaws.{nothing-yet, then-some, all-written}
+use Rattle.filing.proofs.WriteLaws.{nothing-yet, then-some, all-written}
 use borrow.Author.Needs.{needs}
 use native.Mathlib.Omega.{arith}
 use Rattle.header.proofs.writing.put_header.Statement.{statement}

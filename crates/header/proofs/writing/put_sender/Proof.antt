@@ -2,7 +2,7 @@
 use mathlib.Core.Path.{_≡_}
 use lib.ListN.{length, take, drop}
 use Rattle.header.specs.Spelling.{headerPieces}
-use Rattle.header.proofs.WriteLaws.{nothing-yet, then-one, all-written}
+use Rattle.filing.proofs.WriteLaws.{nothing-yet, then-one, all-written}
 use borrow.Author.Needs.{needs}
 use native.Mathlib.Omega.{arith}
 use Rattle.header.proofs.writing.put_sender.Statement.{statement}

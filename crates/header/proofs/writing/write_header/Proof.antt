@@ -5,7 +5,7 @@ use Rattle.filing.specs.declared.Outcome.the-variants as outcome
 use Rattle.header.specs.Spelling.{spellHeader}
 use Rattle.header.specs.Codes.{typedHeaderCode}
 use Rattle.header.specs.Calls.{writeHeaderOutcome, writtenHeader}
-use Rattle.header.proofs.CallLaws.{wrong-length, rule-broken, call-done}
+use Rattle.filing.proofs.CallLaws.{wrong-length, rule-broken, call-done}
 use borrow.Author.Needs.{needs}
 use Rattle.header.proofs.writing.write_header.Statement.{statement}
 use Rattle.header.proofs.writing.write_header.Tie as tie

@@ -7,15 +7,14 @@ use Prim.Native.Nat.{ℕ}
 use lib.Dec.{eqb}
 use lib.ListN.{length}
 use borrow.Author.Tests.{eq-eqb, ne-eqb}
-use Rattle.columns.specs.Texts.{sized}
 use Rattle.filing.specs.Fields.{recordLength}
 use Rattle.filing.specs.Outcomes.{refusal, ifDone, judged}
 use Rattle.filing.specs.declared.Outcome.{Outcome}
 use Rattle.filing.specs.declared.Outcome.the-variants as outcome
 
 -- How it ends on s, whose code is k, where `short` refuses another length.
 abbrev pub ending : List ℕ → ℕ → Outcome → Outcome
-ending s k short = cond (sized recordLength s) (judged k) short
+ending s k short = cond (eqb (length s) recordLength) (judged k) short
 
 -- The outcome, and what is there after it: x where the call is done, else y.
 abbrev pub Ended : {A : Type 0} → List ℕ → ℕ → Outcome → A → A → Outcome → A → Type 0
