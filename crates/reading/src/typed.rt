@@ -1,0 +1,333 @@
+// A station read from its record.
+use crate::judging::check_station;
+use columns::dates::Dated;
+use columns::dates::Day;
+use columns::dates::read_date;
+use columns::decimals::Format;
+use fields::distances::Height;
+use fields::distances::Kilometres;
+use fields::distances::Metres;
+use fields::distances::read_ground;
+use fields::distances::read_height;
+use fields::distances::read_radius;
+use fields::frequencies::Frequency;
+use fields::frequencies::read_frequency;
+use fields::positions::Located;
+use fields::positions::Position;
+use fields::positions::read_position;
+use fields::tenths::Tenths;
+use fields::tenths::read_tenths;
+use filing::Outcome;
+use station::Antenna;
+use station::Channel;
+use station::Emission;
+use station::Filing;
+use station::Site;
+use station::Station;
+ghost use mathlib.Core.Path.{_≡_};
+ghost use mathlib.Core.Bool.{true};
+ghost use lib.ListN.{length};
+ghost use lib.Dec.{eqb};
+ghost use Rattle.columns.specs.Dates.{dayOf};
+ghost use Rattle.fields.specs.Positions.{positionGood, positionOf};
+ghost use Rattle.filing.specs.Outcomes.{refusal};
+ghost use Rattle.filing.specs.Rules.{All};
+ghost use Rattle.station.specs.Places.{fieldsOf};
+ghost use Rattle.station.specs.Rules.{fieldRules};
+ghost use Rattle.station.specs.Values.{emptyStation};
+ghost use Rattle.station.specs.Codes.{valueOf};
+ghost use Rattle.reading.specs.Promises.{StationRead};
+
+// How reading ended, and the station: the empty one on a refusal.
+pub struct ReadStation {
+    pub outcome: Outcome,
+    pub station: Station,
+}
+
+// The date that is there, blank where there is none.
+fn day_in(s: &[u8]) -> Day
+    ensures { λ r. ⌜ r ≡ dayOf (now (s .entry)) ⌝ }
+{
+    match read_date(s) {
+        Dated::Bad => Day::Blank,
+        Dated::Blank => Day::Blank,
+        Dated::Filled(d) => Day::Filled(d),
+    }
+}
+
+// The position of 4C, where it can be read.
+fn position_in(s: &[u8]) -> Position
+    requires { ⌜ positionGood (now s) ≡ true ⌝ }
+    ensures { λ r. ⌜ r ≡ positionOf (now (s .entry)) ⌝ }
+{
+    match read_position(s) {
+        Located::Bad => Position { east: 0, north: 0 },
+        Located::Filled(p) => p,
+    }
+}
+
+// Puts a text into columns of its own width.
+fn put_text(s: &mut [u8], t: &[u8])
+    requires { ⌜ length (now s) ≡ length (now t) ⌝ }
+    ensures { λ _. ⌜ now (s .exit) ≡ now (t .entry) ⌝ }
+{
+    bytes::copy(t, s);
+}
+
+// The text of two columns.
+fn text2(s: &[u8]) -> [u8; 2]
+    requires { ⌜ length (now s) ≡ 2 ⌝ }
+    ensures { λ r. ⌜ r ≡ now (s .entry) ⌝ }
+{
+    let mut a = [0u8; 2];
+    put_text(&mut a, s);
+    a
+}
+
+// The text of three columns.
+fn text3(s: &[u8]) -> [u8; 3]
+    requires { ⌜ length (now s) ≡ 3 ⌝ }
+    ensures { λ r. ⌜ r ≡ now (s .entry) ⌝ }
+{
+    let mut a = [0u8; 3];
+    put_text(&mut a, s);
+    a
+}
+
+// The text of seven columns.
+fn text7(s: &[u8]) -> [u8; 7]
+    requires { ⌜ length (now s) ≡ 7 ⌝ }
+    ensures { λ r. ⌜ r ≡ now (s .entry) ⌝ }
+{
+    let mut a = [0u8; 7];
+    put_text(&mut a, s);
+    a
+}
+
+// The text of nine columns.
+fn text9(s: &[u8]) -> [u8; 9]
+    requires { ⌜ length (now s) ≡ 9 ⌝ }
+    ensures { λ r. ⌜ r ≡ now (s .entry) ⌝ }
+{
+    let mut a = [0u8; 9];
+    put_text(&mut a, s);
+    a
+}
+
+// The text of fifteen columns.
+fn text15(s: &[u8]) -> [u8; 15]
+    requires { ⌜ length (now s) ≡ 15 ⌝ }
+    ensures { λ r. ⌜ r ≡ now (s .entry) ⌝ }
+{
+    let mut a = [0u8; 15];
+    put_text(&mut a, s);
+    a
+}
+
+// The text of twenty columns.
+fn text20(s: &[u8]) -> [u8; 20]
+    requires { ⌜ length (now s) ≡ 20 ⌝ }
+    ensures { λ r. ⌜ r ≡ now (s .entry) ⌝ }
+{
+    let mut a = [0u8; 20];
+    put_text(&mut a, s);
+    a
+}
+
+// The text of fifty columns.
+fn text50(s: &[u8]) -> [u8; 50]
+    requires { ⌜ length (now s) ≡ 50 ⌝ }
+    ensures { λ r. ⌜ r ≡ now (s .entry) ⌝ }
+{
+    let mut a = [0u8; 50];
+    put_text(&mut a, s);
+    a
+}
+
+// What is sent, and for whom, as the record says it.
+fn channel_in(rec: &[u8]) -> Channel
+    requires { ⌜ length (now rec) ≡ 219 ⌝ }
+    ensures { λ r. ⌜ r ≡ valueOf (now (rec .entry)) .channel ⌝ }
+{
+    let transmit = read_frequency(&rec[0..11], &rec[11..12]);
+    let category = rec[12];
+    let class = text2(&rec[13..15]);
+    let service = text2(&rec[15..17]);
+    let users = text2(&rec[17..19]);
+    let carrier = rec[19];
+    Channel {
+        transmit,
+        category,
+        class,
+        service,
+        users,
+        carrier,
+    }
+}
+
+// Where, and since when, as the record says it; 4C counts where its rule holds.
+fn site_in(rec: &[u8]) -> Site
+    requires { ⌜ (length (now rec) ≡ 219) × All (fieldRules (fieldsOf (now rec))) ⌝ }
+    ensures { λ r. ⌜ r ≡ valueOf (now (rec .entry)) .site ⌝ }
+{
+    let started = day_in(&rec[20..28]);
+    let name = text20(&rec[28..48]);
+    let country = text3(&rec[48..51]);
+    let position = position_in(&rec[51..66]);
+    let radius = read_radius(&rec[66..71]);
+    let height = read_height(&rec[71..75]);
+    Site {
+        started,
+        name,
+        country,
+        position,
+        radius,
+        height,
+    }
+}
+
+// How it is sent, as the record says it.
+fn emission_in(rec: &[u8]) -> Emission
+    requires { ⌜ length (now rec) ≡ 219 ⌝ }
+    ensures { λ r. ⌜ r ≡ valueOf (now (rec .entry)) .emission ⌝ }
+{
+    let designation = text9(&rec[75..84]);
+    let power = read_tenths(Format::Power, &rec[84..90]);
+    let basis = rec[90];
+    let azimuth = read_tenths(Format::Azimuth, &rec[91..96]);
+    let elevation = read_tenths(Format::Elevation, &rec[96..101]);
+    Emission {
+        designation,
+        power,
+        basis,
+        azimuth,
+        elevation,
+    }
+}
+
+// From which antenna, as the record says it.
+fn antenna_in(rec: &[u8]) -> Antenna
+    requires { ⌜ length (now rec) ≡ 219 ⌝ }
+    ensures { λ r. ⌜ r ≡ valueOf (now (rec .entry)) .antenna ⌝ }
+{
+    let polarisation = text2(&rec[101..103]);
+    let gain = read_tenths(Format::Gain, &rec[103..107]);
+    let ground = read_ground(&rec[107..111]);
+    let horizontal = text7(&rec[111..118]);
+    let vertical = text7(&rec[118..125]);
+    Antenna {
+        polarisation,
+        gain,
+        ground,
+        horizontal,
+        vertical,
+    }
+}
+
+// What is received, and how it was filed, as the record says it.
+fn filing_in(rec: &[u8]) -> Filing
+    requires { ⌜ length (now rec) ≡ 219 ⌝ }
+    ensures { λ r. ⌜ r ≡ valueOf (now (rec .entry)) .filing ⌝ }
+{
+    let receive = read_frequency(&rec[125..136], &rec[136..137]);
+    let remarks = text50(&rec[137..187]);
+    let status = rec[187];
+    let requested = day_in(&rec[188..196]);
+    let coordinated = day_in(&rec[196..204]);
+    let reference = text15(&rec[204..219]);
+    Filing {
+        receive,
+        remarks,
+        status,
+        requested,
+        coordinated,
+        reference,
+    }
+}
+
+// The station that a record says, where rules 1 to 30 hold.
+fn station_in(rec: &[u8]) -> Station
+    requires { ⌜ (length (now rec) ≡ 219) × All (fieldRules (fieldsOf (now rec))) ⌝ }
+    ensures { λ r. ⌜ r ≡ valueOf (now (rec .entry)) ⌝ }
+{
+    Station {
+        channel: channel_in(rec),
+        site: site_in(rec),
+        emission: emission_in(rec),
+        antenna: antenna_in(rec),
+        filing: filing_in(rec),
+    }
+}
+
+// The empty station: numbers 0, choices the first listed, dates and optional values blank, text all spaces.
+pub fn empty_station() -> Station
+    ensures { λ r. ⌜ r ≡ emptyStation ⌝ }
+{
+    Station {
+        channel: Channel {
+            transmit: Frequency::Blank,
+            category: b'1',
+            class: [b'F', b'B'],
+            service: [b'C', b'O'],
+            users: [b' '; 2],
+            carrier: b'0',
+        },
+        site: Site {
+            started: Day::Blank,
+            name: [b' '; 20],
+            country: [b' '; 3],
+            position: Position { east: 0, north: 0 },
+            radius: Kilometres(0),
+            height: Height::Blank,
+        },
+        emission: Emission {
+            designation: [b' '; 9],
+            power: Tenths::Blank,
+            basis: b'E',
+            azimuth: Tenths::Blank,
+            elevation: Tenths::Blank,
+        },
+        antenna: Antenna {
+            polarisation: [b'H', b' '],
+            gain: Tenths::Blank,
+            ground: Metres(0),
+            horizontal: [b' '; 7],
+            vertical: [b' '; 7],
+        },
+        filing: Filing {
+            receive: Frequency::Blank,
+            remarks: [b' '; 50],
+            status: b'F',
+            requested: Day::Blank,
+            coordinated: Day::Blank,
+            reference: [b' '; 15],
+        },
+    }
+}
+
+// Nothing was refused.
+fn is_done(outcome: Outcome) -> bool
+    ensures { λ r. ⌜ r ≡ eqb (refusal outcome) 0 ⌝ }
+{
+    match outcome {
+        Outcome::Done => true,
+        _ => false,
+    }
+}
+
+// Reads a station's record; it is refused where it has not 219 bytes, or breaks a rule.
+pub fn read_station(rec: &[u8]) -> ReadStation
+    ensures { λ r. ⌜ StationRead (now (rec .entry)) r ⌝ }
+{
+    let outcome = check_station(rec);
+    if is_done(outcome) {
+        return ReadStation {
+            outcome,
+            station: station_in(rec),
+        };
+    }
+    ReadStation {
+        outcome,
+        station: empty_station(),
+    }
+}
