@@ -41,7 +41,7 @@ ghost use Rattle.columns.specs.Texts.{bytes, head, trimmed, same, endsIn};
 ghost use Rattle.filing.specs.Rules.{firstBroken};
 ghost use Rattle.station.specs.Rules.{channelRules, siteRules, emissionRules, antennaRules, filingRules, typedRules};
 ghost use Rattle.station.specs.Between.{roundAntenna, firstBetween, lastBetween};
-ghost use Rattle.station.specs.Codes.{typedCode};
+ghost use Rattle.station.specs.Promises.{StationJudged};
 
 // Rules 1 to 7; a typed unit always has its letter.
 fn typed_channel_code(s: Channel) -> u8
@@ -251,7 +251,7 @@ fn typed_last_between(s: Station) -> u8
 
 // The first broken rule of a typed station, 0 where none is.
 pub fn typed_code(s: Station) -> u8
-    ensures { λ r. ⌜ r ≡ typedCode s ⌝ }
+    ensures { λ r. ⌜ StationJudged s r ⌝ }
 {
     let field = typed_field_code(s);
     if field != 0 {
