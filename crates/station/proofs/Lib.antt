@@ -1,1 +1,3 @@
+pub mod EndLaws
 pub mod RoundTrip
+pub mod Unique

@@ -6,3 +6,4 @@ pub mod Spelling
 pub mod Codes
 pub mod Setting
 pub mod Calls
+pub mod Promises

@@ -7,7 +7,10 @@ use fields::frequencies::Frequency;
 use fields::positions::Position;
 use fields::tenths::Tenths;
 
+pub mod between;
 pub mod places;
+pub mod setting;
+pub mod typed;
 
 // What is sent, and for whom: 1A with its unit, 1Z, 6A, 6B, 6Z and 10Z.
 pub struct Channel {

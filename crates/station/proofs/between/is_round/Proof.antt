@@ -1,0 +1,18 @@
+-- `station::between::is_round` meets its contract. Assumes nothing.
+use Rattle.station.specs.Between.{roundAntenna}
+use borrow.Author.Needs.{needs}
+use Rattle.station.proofs.between.is_round.Statement.{statement}
+use Rattle.station.proofs.between.is_round.Tie as tie
+
+slice-aggregate-equal : tie.Need-slice-aggregate-equal
+slice-aggregate-equal c = search needs
+
+equal-requires : tie.Need-equal-requires
+equal-requires c κs = search needs
+
+returns : tie.Need-returns
+unfolding roundAntenna
+returns c = c .equal .ensures
+
+pub is-round-spec : {M : Type 1} → statement M
+is-round-spec = tie.close (tie.spec slice-aggregate-equal equal-requires returns)
