@@ -1,0 +1,42 @@
+-- The values of a station that breaks no rule keep the rules of their group.
+-- Assumes nothing.
+use mathlib.Core.Path.{_≡_}
+use mathlib.Core.List.{_++_}
+use Rattle.filing.specs.Rules.{All}
+use Rattle.filing.proofs.RuleLaws.{all-hold, all-front, all-back}
+use Rattle.station.specs.Rules.{channelRules, siteRules, emissionRules, antennaRules, filingRules, typedRules}
+use Rattle.station.specs.Between.{betweenRules}
+use Rattle.station.specs.Codes.{typedCode}
+use Rattle.station.specs.declared.Station.{Station}
+
+module _ (s : Station) (e : typedCode s ≡ 0) where
+  -- the rules of its fields, and group by group what is left of them
+  fields-fit : All (typedRules s)
+  unfolding typedCode
+  fields-fit = all-front (typedRules s) (betweenRules s) (all-hold 0 (typedRules s ++ betweenRules s) e)
+
+  from-site : All (siteRules (s .site) ++ (emissionRules (s .emission) ++ (antennaRules (s .antenna) ++ filingRules (s .filing))))
+  unfolding typedRules
+  from-site = all-back (channelRules (s .channel)) _ fields-fit
+
+  from-emission : All (emissionRules (s .emission) ++ (antennaRules (s .antenna) ++ filingRules (s .filing)))
+  from-emission = all-back (siteRules (s .site)) _ from-site
+
+  from-antenna : All (antennaRules (s .antenna) ++ filingRules (s .filing))
+  from-antenna = all-back (emissionRules (s .emission)) _ from-emission
+
+  pub channel-fits : All (channelRules (s .channel))
+  unfolding typedRules
+  channel-fits = all-front (channelRules (s .channel)) _ fields-fit
+
+  pub site-fits : All (siteRules (s .site))
+  site-fits = all-front (siteRules (s .site)) _ from-site
+
+  pub emission-fits : All (emissionRules (s .emission))
+  emission-fits = all-front (emissionRules (s .emission)) _ from-emission
+
+  pub antenna-fits : All (antennaRules (s .antenna))
+  antenna-fits = all-front (antennaRules (s .antenna)) _ from-antenna
+
+  pub filing-fits : All (filingRules (s .filing))
+  filing-fits = all-back (antennaRules (s .antenna)) _ from-antenna

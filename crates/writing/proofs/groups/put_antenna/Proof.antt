@@ -1,0 +1,110 @@
+-- `writing::groups::put_antenna` meets its contract: each field is written after the one before it. Assumes nothing.
+use mathlib.Core.Path.{_≡_}
+use mathlib.Core.Bool.{false}
+use lib.ListN.{length, take, drop}
+use Rattle.fields.specs.Tenths.{spellTenths}
+use Rattle.fields.specs.Distances.{spellGround}
+use Rattle.station.specs.Rules.{antennaRules}
+use Rattle.station.specs.Spelling.{antennaPieces}
+use Rattle.writing.proofs.WriteLaws.{nothing-yet, then-one, then-some, all-written}
+use borrow.Author.Needs.{needs}
+use native.Mathlib.Omega.{arith}
+use Rattle.writing.proofs.groups.put_antenna.Statement.{statement}
+use Rattle.writing.proofs.groups.put_antenna.Tie as tie
+
+sub-put-text : tie.Need-sub-put-text
+sub-put-text c = search needs
+
+part-put-text-start : tie.Need-part-put-text-start
+part-put-text-start c = search needs
+
+part-put-text-end : tie.Need-part-put-text-end
+part-put-text-end c = search needs
+
+slice-aggregate-put-text : tie.Need-slice-aggregate-put-text
+slice-aggregate-put-text c = search needs
+
+put-text-requires : tie.Need-put-text-requires
+put-text-requires c κs = let n : length (c .before .before .before .before .args .g .polarisation) ≡ 2 = search needs in rw n (search needs)
+
+sub-put-tenths : tie.Need-sub-put-tenths
+sub-put-tenths c = search needs
+
+part-put-tenths-start : tie.Need-part-put-tenths-start
+part-put-tenths-start c = search needs
+
+part-put-tenths-end : tie.Need-part-put-tenths-end
+part-put-tenths-end c = search needs
+
+put-tenths-requires : tie.Need-put-tenths-requires
+unfolding antennaRules
+put-tenths-requires c κs = (search needs, c .before .before .before .before .before .before .before .before .pre .1 .1 .0)
+
+sub-put-ground : tie.Need-sub-put-ground
+sub-put-ground c = search needs
+
+part-put-ground-start : tie.Need-part-put-ground-start
+part-put-ground-start c = search needs
+
+part-put-ground-end : tie.Need-part-put-ground-end
+part-put-ground-end c = search needs
+
+put-ground-requires : tie.Need-put-ground-requires
+unfolding antennaRules
+put-ground-requires c κs = (search needs, c .before .before .before .before .before .before .before .before .before .before .before .before .before .pre .1 .1 .1 .0)
+
+sub-put-types : tie.Need-sub-put-types
+sub-put-types c = search needs
+
+part-put-types-start : tie.Need-part-put-types-start
+part-put-types-start c = search needs
+
+part-put-types-end : tie.Need-part-put-types-end
+part-put-types-end c = search needs
+
+put-types-requires : tie.Need-put-types-requires
+put-types-requires c κs = search needs
+
+same-length : tie.Need-same-length
+same-length c = search needs
+
+returns : tie.Need-returns
+unfolding antennaPieces
+returns c =
+    let rest = c .before .before in
+    let ground = rest .before .before .before .before in
+    let gain = ground .before .before .before .before .before in
+    let polarisation = gain .before .before .before .before in
+    let start = polarisation .before .before .before .before .before in
+    let g = start .args .g in
+    let l : length (start .args .s .now) ≡ 24 = start .pre .0 in
+    let w0 = nothing-yet (start .args .s .now) in
+    let w1 = then-one w0 2 (omega arith) (g .polarisation) (polarisation .put-text .ensures) (polarisation .put-text .kept .0) in
+    let w2 = then-one w1 4 (omega arith) (spellTenths 2 1 false (g .gain)) (gain .put-tenths .ensures) (gain .put-tenths .kept .1 .0) in
+    let w3 = then-one w2 4 (omega arith) (spellGround (g .ground)) (ground .put-ground .ensures) (ground .put-ground .kept .0) in
+    let w4 = then-some w3 14 (omega arith) (drop 3 (antennaPieces g)) (rest .put-types .ensures) (rest .put-types .kept .1 .0) in
+    all-written w4 l
+
+pub put-antenna-spec : {M : Type 1} → statement M
+put-antenna-spec =
+    tie.close
+    (tie.spec
+    sub-put-text
+    part-put-text-start
+    part-put-text-end
+    slice-aggregate-put-text
+    put-text-requires
+    sub-put-tenths
+    part-put-tenths-start
+    part-put-tenths-end
+    put-tenths-requires
+    sub-put-ground
+    part-put-ground-start
+    part-put-ground-end
+    put-ground-requires
+    sub-put-types
+    part-put-types-start
+    part-put-types-end
+    put-types-requires
+    same-length
+    returns)

@@ -1,0 +1,69 @@
+-- `writing::groups::put_direction` meets its contract: each field is written after the one before it. Assumes nothing.
+use mathlib.Core.Path.{_≡_}
+use mathlib.Core.Bool.{true, false}
+use lib.ListN.{length, take, drop}
+use Rattle.fields.specs.Tenths.{spellTenths}
+use Rattle.station.specs.Rules.{emissionRules}
+use Rattle.station.specs.Spelling.{emissionPieces}
+use Rattle.writing.proofs.WriteLaws.{nothing-yet, then-one, all-written}
+use borrow.Author.Needs.{needs}
+use native.Mathlib.Omega.{arith}
+use Rattle.writing.proofs.groups.put_direction.Statement.{statement}
+use Rattle.writing.proofs.groups.put_direction.Tie as tie
+
+sub-put-tenths : tie.Need-sub-put-tenths
+sub-put-tenths c = search needs
+
+part-put-tenths-start : tie.Need-part-put-tenths-start
+part-put-tenths-start c = search needs
+
+part-put-tenths-end : tie.Need-part-put-tenths-end
+part-put-tenths-end c = search needs
+
+put-tenths-requires : tie.Need-put-tenths-requires
+unfolding emissionRules
+put-tenths-requires c κs = (search needs, c .before .before .pre .1 .1 .1 .1 .0)
+
+sub-put-tenths-2 : tie.Need-sub-put-tenths-2
+sub-put-tenths-2 c = search needs
+
+part-put-tenths-start-2 : tie.Need-part-put-tenths-start-2
+part-put-tenths-start-2 c = search needs
+
+part-put-tenths-end-2 : tie.Need-part-put-tenths-end-2
+part-put-tenths-end-2 c = search needs
+
+put-tenths-requires-2 : tie.Need-put-tenths-requires-2
+unfolding emissionRules
+put-tenths-requires-2 c κs = (search needs, c .before .before .before .before .before .before .pre .1 .1 .1 .1 .1 .0)
+
+same-length : tie.Need-same-length
+same-length c = search needs
+
+returns : tie.Need-returns
+unfolding emissionPieces
+returns c =
+    let elevation = c .before .before in
+    let azimuth = elevation .before .before .before .before in
+    let start = azimuth .before .before .before in
+    let g = start .args .g in
+    let l : length (start .args .s .now) ≡ 10 = start .pre .0 in
+    let w0 = nothing-yet (start .args .s .now) in
+    let w1 = then-one w0 5 (omega arith) (spellTenths 3 1 false (g .azimuth)) (azimuth .put-tenths .ensures) (azimuth .put-tenths .kept .1 .0) in
+    let w2 = then-one w1 5 (omega arith) (spellTenths 2 1 true (g .elevation)) (elevation .put-tenths2 .ensures) (elevation .put-tenths2 .kept .1 .0) in
+    all-written w2 l
+
+pub put-direction-spec : {M : Type 1} → statement M
+put-direction-spec =
+    tie.close
+    (tie.spec
+    sub-put-tenths
+    part-put-tenths-start
+    part-put-tenths-end
+    put-tenths-requires
+    sub-put-tenths-2
+    part-put-tenths-start-2
+    part-put-tenths-end-2
+    put-tenths-requires-2
+    same-length
+    returns)

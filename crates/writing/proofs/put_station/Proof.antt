@@ -1,0 +1,119 @@
+-- `writing::put_station` meets its contract: each group is written after the one before it. Assumes nothing.
+use mathlib.Core.Path.{_≡_}
+use lib.ListN.{length, take, drop}
+use Rattle.station.specs.Spelling.{channelPieces, sitePieces, emissionPieces, antennaPieces, filingPieces, stationPieces, spellStation}
+use Rattle.writing.proofs.FitLaws.{channel-fits, site-fits, emission-fits, antenna-fits, filing-fits}
+use Rattle.writing.proofs.WriteLaws.{nothing-yet, then-some, all-written}
+use borrow.Author.Needs.{needs}
+use native.Mathlib.Omega.{arith}
+use Rattle.writing.proofs.put_station.Statement.{statement}
+use Rattle.writing.proofs.put_station.Tie as tie
+
+sub-put-channel : tie.Need-sub-put-channel
+sub-put-channel c = search needs
+
+part-put-channel-start : tie.Need-part-put-channel-start
+part-put-channel-start c = search needs
+
+part-put-channel-end : tie.Need-part-put-channel-end
+part-put-channel-end c = search needs
+
+put-channel-requires : tie.Need-put-channel-requires
+put-channel-requires c κs = (search needs, channel-fits (c .before .before .before .args .s) (c .before .before .before .pre .1))
+
+sub-put-site : tie.Need-sub-put-site
+sub-put-site c = search needs
+
+part-put-site-start : tie.Need-part-put-site-start
+part-put-site-start c = search needs
+
+part-put-site-end : tie.Need-part-put-site-end
+part-put-site-end c = search needs
+
+put-site-requires : tie.Need-put-site-requires
+put-site-requires c κs = (search needs, site-fits (c .before .before .before .before .before .before .before .before .args .s) (c .before .before .before .before .before .before .before .before .pre .1))
+
+sub-put-emission : tie.Need-sub-put-emission
+sub-put-emission c = search needs
+
+part-put-emission-start : tie.Need-part-put-emission-start
+part-put-emission-start c = search needs
+
+part-put-emission-end : tie.Need-part-put-emission-end
+part-put-emission-end c = search needs
+
+put-emission-requires : tie.Need-put-emission-requires
+put-emission-requires c κs = (search needs, emission-fits (c .before .before .before .before .before .before .before .before .before .before .before .before .before .args .s) (c .before .before .before .before .before .before .before .before .before .before .before .before .before .pre .1))
+
+sub-put-antenna : tie.Need-sub-put-antenna
+sub-put-antenna c = search needs
+
+part-put-antenna-start : tie.Need-part-put-antenna-start
+part-put-antenna-start c = search needs
+
+part-put-antenna-end : tie.Need-part-put-antenna-end
+part-put-antenna-end c = search needs
+
+put-antenna-requires : tie.Need-put-antenna-requires
+put-antenna-requires c κs = (search needs, antenna-fits (c .before .before .before .before .before .before .before .before .before .before .before .before .before .before .before .before .before .before .args .s) (c .before .before .before .before .before .before .before .before .before .before .before .before .before .before .before .before .before .before .pre .1))
+
+sub-put-filing : tie.Need-sub-put-filing
+sub-put-filing c = search needs
+
+part-put-filing-start : tie.Need-part-put-filing-start
+part-put-filing-start c = search needs
+
+part-put-filing-end : tie.Need-part-put-filing-end
+part-put-filing-end c = search needs
+
+put-filing-requires : tie.Need-put-filing-requires
+put-filing-requires c κs = (search needs, filing-fits (c .before .before .before .before .before .before .before .before .before .before .before .before .before .before .before .before .before .before .before .before .before .before .before .args .s) (c .before .before .before .before .before .before .before .before .before .before .before .before .before .before .before .before .before .before .before .before .before .before .before .pre .1))
+
+same-length : tie.Need-same-length
+same-length c = search needs
+
+returns : tie.Need-returns
+unfolding spellStation stationPieces channelPieces sitePieces emissionPieces antennaPieces filingPieces
+returns c =
+    let filing = c .before .before in
+    let antenna = filing .before .before .before .before .before in
+    let emission = antenna .before .before .before .before .before in
+    let site = emission .before .before .before .before .before in
+    let channel = site .before .before .before .before .before in
+    let start = channel .before .before .before .before in
+    let s = start .args .s in
+    let l : length (start .args .buffer .now) ≡ 219 = start .pre .0 in
+    let w0 = nothing-yet (start .args .buffer .now) in
+    let w1 = then-some w0 20 (omega arith) (channelPieces (s .channel)) (channel .put-channel .ensures) (channel .put-channel .kept .1 .0) in
+    let w2 = then-some w1 55 (omega arith) (sitePieces (s .site)) (site .put-site .ensures) (site .put-site .kept .1 .0) in
+    let w3 = then-some w2 26 (omega arith) (emissionPieces (s .emission)) (emission .put-emission .ensures) (emission .put-emission .kept .1 .0) in
+    let w4 = then-some w3 24 (omega arith) (antennaPieces (s .antenna)) (antenna .put-antenna .ensures) (antenna .put-antenna .kept .1 .0) in
+    let w5 = then-some w4 94 (omega arith) (filingPieces (s .filing)) (filing .put-filing .ensures) (filing .put-filing .kept .1 .0) in
+    all-written w5 l
+
+pub put-station-spec : {M : Type 1} → statement M
+put-station-spec =
+    tie.close
+    (tie.spec
+    sub-put-channel
+    part-put-channel-start
+    part-put-channel-end
+    put-channel-requires
+    sub-put-site
+    part-put-site-start
+    part-put-site-end
+    put-site-requires
+    sub-put-emission
+    part-put-emission-start
+    part-put-emission-end
+    put-emission-requires
+    sub-put-antenna
+    part-put-antenna-start
+    part-put-antenna-end
+    put-antenna-requires
+    sub-put-filing
+    part-put-filing-start
+    part-put-filing-end
+    put-filing-requires
+    same-length
+    returns)

@@ -1,0 +1,152 @@
+// The five groups of a station's fields, each field written straight into its own columns.
+use crate::putting::put_amount;
+use crate::putting::put_byte;
+use crate::putting::put_day;
+use crate::putting::put_ground;
+use crate::putting::put_height;
+use crate::putting::put_position;
+use crate::putting::put_radius;
+use crate::putting::put_tenths;
+use crate::putting::put_text;
+use crate::putting::put_unit;
+use columns::decimals::Format;
+use station::Antenna;
+use station::Channel;
+use station::Emission;
+use station::Filing;
+use station::Site;
+ghost use mathlib.Core.Path.{_≡_};
+ghost use lib.ListN.{length, drop};
+ghost use Rattle.filing.specs.Fields.{joined};
+ghost use Rattle.filing.specs.Rules.{All};
+ghost use Rattle.station.specs.Rules.{channelRules, siteRules, emissionRules, antennaRules, filingRules};
+ghost use Rattle.station.specs.Spelling.{channelPieces, sitePieces, emissionPieces, antennaPieces, filingPieces};
+
+// 6A, 6B, 6Z and 10Z, columns 14 to 20: what it is used for.
+fn put_use(g: Channel, s: &mut [u8])
+    requires { ⌜ length (now s) ≡ 7 ⌝ }
+    ensures { λ _. ⌜ now (s .exit) ≡ joined (drop 3 (channelPieces g)) ⌝ }
+{
+    let class = g.class;
+    put_text(&mut s[0..2], &class);
+    let service = g.service;
+    put_text(&mut s[2..4], &service);
+    let users = g.users;
+    put_text(&mut s[4..6], &users);
+    put_byte(&mut s[6..7], g.carrier);
+}
+
+// 1A with its unit, 1Z and what follows, columns 1 to 20.
+pub(crate) fn put_channel(g: Channel, s: &mut [u8])
+    requires { ⌜ (length (now s) ≡ 20) × All (channelRules g) ⌝ }
+    ensures { λ _. ⌜ now (s .exit) ≡ joined (channelPieces g) ⌝ }
+{
+    let transmit = g.transmit;
+    put_amount(&mut s[0..11], transmit);
+    put_unit(&mut s[11..12], transmit);
+    put_byte(&mut s[12..13], g.category);
+    put_use(g, &mut s[13..20]);
+}
+
+// 4C, 4D and 4Z, columns 52 to 75: the place on the ground.
+fn put_location(g: Site, s: &mut [u8])
+    requires { ⌜ (length (now s) ≡ 24) × All (siteRules g) ⌝ }
+    ensures { λ _. ⌜ now (s .exit) ≡ joined (drop 3 (sitePieces g)) ⌝ }
+{
+    let position = g.position;
+    put_position(&mut s[0..15], position);
+    let radius = g.radius;
+    put_radius(&mut s[15..20], radius);
+    let height = g.height;
+    put_height(&mut s[20..24], height);
+}
+
+// 2C, 4A, 4B and the place on the ground, columns 21 to 75.
+pub(crate) fn put_site(g: Site, s: &mut [u8])
+    requires { ⌜ (length (now s) ≡ 55) × All (siteRules g) ⌝ }
+    ensures { λ _. ⌜ now (s .exit) ≡ joined (sitePieces g) ⌝ }
+{
+    let started = g.started;
+    put_day(&mut s[0..8], started);
+    let name = g.name;
+    put_text(&mut s[8..28], &name);
+    let country = g.country;
+    put_text(&mut s[28..31], &country);
+    put_location(g, &mut s[31..55]);
+}
+
+// 9A and 9B, columns 92 to 101: where it is sent to.
+fn put_direction(g: Emission, s: &mut [u8])
+    requires { ⌜ (length (now s) ≡ 10) × All (emissionRules g) ⌝ }
+    ensures { λ _. ⌜ now (s .exit) ≡ joined (drop 3 (emissionPieces g)) ⌝ }
+{
+    let azimuth = g.azimuth;
+    put_tenths(Format::Azimuth, &mut s[0..5], azimuth);
+    let elevation = g.elevation;
+    put_tenths(Format::Elevation, &mut s[5..10], elevation);
+}
+
+// 7A, 8B1, 8B2 and the direction, columns 76 to 101.
+pub(crate) fn put_emission(g: Emission, s: &mut [u8])
+    requires { ⌜ (length (now s) ≡ 26) × All (emissionRules g) ⌝ }
+    ensures { λ _. ⌜ now (s .exit) ≡ joined (emissionPieces g) ⌝ }
+{
+    let designation = g.designation;
+    put_text(&mut s[0..9], &designation);
+    let power = g.power;
+    put_tenths(Format::Power, &mut s[9..15], power);
+    put_byte(&mut s[15..16], g.basis);
+    put_direction(g, &mut s[16..26]);
+}
+
+// 9XH and 9XV, columns 112 to 125: the types of the antenna.
+fn put_types(g: Antenna, s: &mut [u8])
+    requires { ⌜ length (now s) ≡ 14 ⌝ }
+    ensures { λ _. ⌜ now (s .exit) ≡ joined (drop 3 (antennaPieces g)) ⌝ }
+{
+    let horizontal = g.horizontal;
+    put_text(&mut s[0..7], &horizontal);
+    let vertical = g.vertical;
+    put_text(&mut s[7..14], &vertical);
+}
+
+// 9D, 9G, 9Y and the types, columns 102 to 125.
+pub(crate) fn put_antenna(g: Antenna, s: &mut [u8])
+    requires { ⌜ (length (now s) ≡ 24) × All (antennaRules g) ⌝ }
+    ensures { λ _. ⌜ now (s .exit) ≡ joined (antennaPieces g) ⌝ }
+{
+    let polarisation = g.polarisation;
+    put_text(&mut s[0..2], &polarisation);
+    let gain = g.gain;
+    put_tenths(Format::Gain, &mut s[2..6], gain);
+    let ground = g.ground;
+    put_ground(&mut s[6..10], ground);
+    put_types(g, &mut s[10..24]);
+}
+
+// 13Y, 2W, 2Z and 13X, columns 188 to 219: how it was coordinated.
+fn put_coordination(g: Filing, s: &mut [u8])
+    requires { ⌜ (length (now s) ≡ 32) × All (filingRules g) ⌝ }
+    ensures { λ _. ⌜ now (s .exit) ≡ joined (drop 3 (filingPieces g)) ⌝ }
+{
+    put_byte(&mut s[0..1], g.status);
+    let requested = g.requested;
+    put_day(&mut s[1..9], requested);
+    let coordinated = g.coordinated;
+    put_day(&mut s[9..17], coordinated);
+    let reference = g.reference;
+    put_text(&mut s[17..32], &reference);
+}
+
+// 1Y with its unit, 13Z and what follows, columns 126 to 219.
+pub(crate) fn put_filing(g: Filing, s: &mut [u8])
+    requires { ⌜ (length (now s) ≡ 94) × All (filingRules g) ⌝ }
+    ensures { λ _. ⌜ now (s .exit) ≡ joined (filingPieces g) ⌝ }
+{
+    let receive = g.receive;
+    put_amount(&mut s[0..11], receive);
+    put_unit(&mut s[11..12], receive);
+    let remarks = g.remarks;
+    put_text(&mut s[12..62], &remarks);
+    put_coordination(g, &mut s[62..94]);
+}

@@ -1,0 +1,31 @@
+// A typed station written into a lent record, each field straight into its own columns.
+use crate::groups::put_antenna;
+use crate::groups::put_channel;
+use crate::groups::put_emission;
+use crate::groups::put_filing;
+use crate::groups::put_site;
+use station::Station;
+ghost use mathlib.Core.Path.{_≡_};
+ghost use lib.ListN.{length};
+ghost use Rattle.station.specs.Codes.{typedCode};
+ghost use Rattle.station.specs.Spelling.{spellStation};
+
+mod groups;
+mod putting;
+
+// Writes a station that breaks no rule.
+fn put_station(s: Station, buffer: &mut [u8])
+    requires { ⌜ (length (now buffer) ≡ 219) × (typedCode s ≡ 0) ⌝ }
+    ensures { λ _. ⌜ now (buffer .exit) ≡ spellStation s ⌝ }
+{
+    let channel = s.channel;
+    put_channel(channel, &mut buffer[0..20]);
+    let site = s.site;
+    put_site(site, &mut buffer[20..75]);
+    let emission = s.emission;
+    put_emission(emission, &mut buffer[75..101]);
+    let antenna = s.antenna;
+    put_antenna(antenna, &mut buffer[101..125]);
+    let filing = s.filing;
+    put_filing(filing, &mut buffer[125..219]);
+}

@@ -1,0 +1,108 @@
+// One value that keeps its rule, written into columns of its field's width.
+use columns::dates::Day;
+use columns::dates::write_day;
+use columns::decimals::Format;
+use columns::texts::write_text;
+use fields::distances::Height;
+use fields::distances::Kilometres;
+use fields::distances::Metres;
+use fields::distances::write_ground;
+use fields::distances::write_height;
+use fields::distances::write_radius;
+use fields::frequencies::Frequency;
+use fields::frequencies::write_amount;
+use fields::frequencies::write_unit;
+use fields::positions::Position;
+use fields::positions::write_position;
+use fields::tenths::Tenths;
+use fields::tenths::write_tenths;
+ghost use mathlib.Core.Path.{_≡_};
+ghost use mathlib.Core.Bool.{true};
+ghost use mathlib.Core.List.{[], _∷_};
+ghost use lib.ListN.{length};
+ghost use Rattle.columns.specs.Dates.{dayFits, spellDay};
+ghost use Rattle.columns.specs.Decimals.{digitsBefore, digitsAfter, maySign, formatWidth};
+ghost use Rattle.fields.specs.Distances.{radiusFits, spellRadius, groundFits, spellGround, heightFits, spellHeight};
+ghost use Rattle.fields.specs.Frequencies.{frequencyFits, spellAmount, spellUnit};
+ghost use Rattle.fields.specs.Positions.{positionFits, spellPosition};
+ghost use Rattle.fields.specs.Tenths.{tenthsFit, rangeOf, spellTenths};
+
+// A code of one byte: 1Z, 10Z, 8B2 or 13Y.
+pub(crate) fn put_byte(s: &mut [u8], b: u8)
+    requires { ⌜ length (now s) ≡ 1 ⌝ }
+    ensures { λ _. ⌜ now (s .exit) ≡ b ∷ [] ⌝ }
+{
+    s[0] = b;
+}
+
+// A text, as it is.
+pub(crate) fn put_text(s: &mut [u8], t: &[u8])
+    requires { ⌜ length (now s) ≡ length (now t) ⌝ }
+    ensures { λ _. ⌜ now (s .exit) ≡ now (t .entry) ⌝ }
+{
+    write_text(s, t);
+}
+
+// A date or blank: 2C, 2W or 2Z.
+pub(crate) fn put_day(s: &mut [u8], v: Day)
+    requires { ⌜ (length (now s) ≡ 8) × (dayFits v ≡ true) ⌝ }
+    ensures { λ _. ⌜ now (s .exit) ≡ spellDay v ⌝ }
+{
+    write_day(s, v);
+}
+
+// A frequency without its unit, or blank: 1A or 1Y.
+pub(crate) fn put_amount(s: &mut [u8], v: Frequency)
+    requires { ⌜ (length (now s) ≡ 11) × (frequencyFits v ≡ true) ⌝ }
+    ensures { λ _. ⌜ now (s .exit) ≡ spellAmount v ⌝ }
+{
+    write_amount(s, v);
+}
+
+// The letter of a frequency's unit, or a space.
+pub(crate) fn put_unit(s: &mut [u8], v: Frequency)
+    requires { ⌜ length (now s) ≡ 1 ⌝ }
+    ensures { λ _. ⌜ now (s .exit) ≡ spellUnit v ⌝ }
+{
+    write_unit(s, v);
+}
+
+// A position on the ground: 4C.
+pub(crate) fn put_position(s: &mut [u8], v: Position)
+    requires { ⌜ (length (now s) ≡ 15) × (positionFits v ≡ true) ⌝ }
+    ensures { λ _. ⌜ now (s .exit) ≡ spellPosition v ⌝ }
+{
+    write_position(s, v);
+}
+
+// The radius of a circle in kilometres: 4D.
+pub(crate) fn put_radius(s: &mut [u8], v: Kilometres)
+    requires { ⌜ (length (now s) ≡ 5) × (radiusFits v ≡ true) ⌝ }
+    ensures { λ _. ⌜ now (s .exit) ≡ spellRadius v ⌝ }
+{
+    write_radius(s, v);
+}
+
+// A height above ground in metres: 9Y.
+pub(crate) fn put_ground(s: &mut [u8], v: Metres)
+    requires { ⌜ (length (now s) ≡ 4) × (groundFits v ≡ true) ⌝ }
+    ensures { λ _. ⌜ now (s .exit) ≡ spellGround v ⌝ }
+{
+    write_ground(s, v);
+}
+
+// A height above sea in metres, or blank: 4Z.
+pub(crate) fn put_height(s: &mut [u8], v: Height)
+    requires { ⌜ (length (now s) ≡ 4) × (heightFits v ≡ true) ⌝ }
+    ensures { λ _. ⌜ now (s .exit) ≡ spellHeight v ⌝ }
+{
+    write_height(s, v);
+}
+
+// Tenths in the format of their field, or blank: 8B1, 9A, 9B or 9G.
+pub(crate) fn put_tenths(format: Format, s: &mut [u8], v: Tenths)
+    requires { ⌜ (length (now s) ≡ formatWidth format) × (tenthsFit (digitsBefore format) (digitsAfter format) (maySign format) (rangeOf format) v ≡ true) ⌝ }
+    ensures { λ _. ⌜ now (s .exit) ≡ spellTenths (digitsBefore format) (digitsAfter format) (maySign format) v ⌝ }
+{
+    write_tenths(format, s, v);
+}
