@@ -1,3 +1,3 @@
-pub mod WriteLaws
-pub mod PutLaws
 pub mod FitLaws
+pub mod PutLaws
+pub mod Unique

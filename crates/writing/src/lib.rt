@@ -4,11 +4,14 @@ use crate::groups::put_channel;
 use crate::groups::put_emission;
 use crate::groups::put_filing;
 use crate::groups::put_site;
+use filing::Outcome;
 use station::Station;
+use station::typed::typed_code;
 ghost use mathlib.Core.Path.{_≡_};
 ghost use lib.ListN.{length};
 ghost use Rattle.station.specs.Codes.{typedCode};
 ghost use Rattle.station.specs.Spelling.{spellStation};
+ghost use Rattle.writing.specs.Promises.{StationWritten};
 
 mod groups;
 mod putting;
@@ -28,4 +31,20 @@ fn put_station(s: Station, buffer: &mut [u8])
     put_antenna(antenna, &mut buffer[101..125]);
     let filing = s.filing;
     put_filing(filing, &mut buffer[125..219]);
+}
+
+// Writes a station into a lent buffer; it is refused where that has not 219 bytes, or the station breaks a rule, and then
+// nothing is written.
+pub fn write_station(s: Station, buffer: &mut [u8]) -> Outcome
+    ensures { λ r. ⌜ StationWritten s (now (buffer .entry)) r (now (buffer .exit)) ⌝ }
+{
+    if buffer.len() != 219 {
+        return Outcome::BufferLength;
+    }
+    let code = typed_code(s);
+    if code != 0 {
+        return Outcome::RuleBroken(code);
+    }
+    put_station(s, buffer);
+    Outcome::Done
 }

@@ -3,7 +3,7 @@ use mathlib.Core.Path.{_≡_}
 use lib.ListN.{length, take, drop}
 use Rattle.station.specs.Spelling.{channelPieces, sitePieces, emissionPieces, antennaPieces, filingPieces, stationPieces, spellStation}
 use Rattle.writing.proofs.FitLaws.{channel-fits, site-fits, emission-fits, antenna-fits, filing-fits}
-use Rattle.writing.proofs.WriteLaws.{nothing-yet, then-some, all-written}
+use Rattle.filing.proofs.WriteLaws.{nothing-yet, then-some, all-written}
 use borrow.Author.Needs.{needs}
 use native.Mathlib.Omega.{arith}
 use Rattle.writing.proofs.put_station.Statement.{statement}

@@ -6,7 +6,7 @@ use Rattle.fields.specs.Tenths.{spellTenths}
 use Rattle.fields.specs.Distances.{spellGround}
 use Rattle.station.specs.Rules.{antennaRules}
 use Rattle.station.specs.Spelling.{antennaPieces}
-use Rattle.writing.proofs.WriteLaws.{nothing-yet, then-one, then-some, all-written}
+use Rattle.filing.proofs.WriteLaws.{nothing-yet, then-one, then-some, all-written}
 use borrow.Author.Needs.{needs}
 use native.Mathlib.Omega.{arith}
 use Rattle.writing.proofs.groups.put_antenna.Statement.{statement}

@@ -5,7 +5,7 @@ use lib.ListN.{length, take, drop}
 use Rattle.columns.specs.Dates.{spellDay}
 use Rattle.station.specs.Rules.{filingRules}
 use Rattle.station.specs.Spelling.{filingPieces}
-use Rattle.writing.proofs.WriteLaws.{nothing-yet, then-one, all-written}
+use Rattle.filing.proofs.WriteLaws.{nothing-yet, then-one, all-written}
 use borrow.Author.Needs.{needs}
 use native.Mathlib.Omega.{arith}
 use Rattle.writing.proofs.groups.put_coordination.Statement.{statement}

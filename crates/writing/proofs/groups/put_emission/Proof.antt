@@ -6,7 +6,7 @@ use lib.ListN.{length, take, drop}
 use Rattle.fields.specs.Tenths.{spellTenths}
 use Rattle.station.specs.Rules.{emissionRules}
 use Rattle.station.specs.Spelling.{emissionPieces}
-use Rattle.writing.proofs.WriteLaws.{nothing-yet, then-one, then-some, all-written}
+use Rattle.filing.proofs.WriteLaws.{nothing-yet, then-one, then-some, all-written}
 use borrow.Author.Needs.{needs}
 use native.Mathlib.Omega.{arith}
 use Rattle.writing.proofs.groups.put_emission.Statement.{statement}

@@ -4,7 +4,7 @@ use lib.ListN.{length, take, drop}
 use Rattle.fields.specs.Frequencies.{spellAmount, spellUnit}
 use Rattle.station.specs.Rules.{filingRules}
 use Rattle.station.specs.Spelling.{filingPieces}
-use Rattle.writing.proofs.WriteLaws.{nothing-yet, then-one, then-some, all-written}
+use Rattle.filing.proofs.WriteLaws.{nothing-yet, then-one, then-some, all-written}
 use borrow.Author.Needs.{needs}
 use native.Mathlib.Omega.{arith}
 use Rattle.writing.proofs.groups.put_filing.Statement.{statement}

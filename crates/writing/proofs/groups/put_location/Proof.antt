@@ -5,7 +5,7 @@ use Rattle.fields.specs.Distances.{spellRadius, spellHeight}
 use Rattle.fields.specs.Positions.{spellPosition}
 use Rattle.station.specs.Rules.{siteRules}
 use Rattle.station.specs.Spelling.{sitePieces}
-use Rattle.writing.proofs.WriteLaws.{nothing-yet, then-one, all-written}
+use Rattle.filing.proofs.WriteLaws.{nothing-yet, then-one, all-written}
 use borrow.Author.Needs.{needs}
 use native.Mathlib.Omega.{arith}
 use Rattle.writing.proofs.groups.put_location.Statement.{statement}

@@ -4,7 +4,7 @@ use lib.ListN.{length, take, drop}
 use Rattle.columns.specs.Dates.{spellDay}
 use Rattle.station.specs.Rules.{siteRules}
 use Rattle.station.specs.Spelling.{sitePieces}
-use Rattle.writing.proofs.WriteLaws.{nothing-yet, then-one, then-some, all-written}
+use Rattle.filing.proofs.WriteLaws.{nothing-yet, then-one, then-some, all-written}
 use borrow.Author.Needs.{needs}
 use native.Mathlib.Omega.{arith}
 use Rattle.writing.proofs.groups.put_site.Statement.{statement}

@@ -3,7 +3,7 @@ use mathlib.Core.Path.{_≡_}
 use mathlib.Core.List.{[], _∷_}
 use lib.ListN.{length, take, drop}
 use Rattle.station.specs.Spelling.{channelPieces}
-use Rattle.writing.proofs.WriteLaws.{nothing-yet, then-one, all-written}
+use Rattle.filing.proofs.WriteLaws.{nothing-yet, then-one, all-written}
 use borrow.Author.Needs.{needs}
 use native.Mathlib.Omega.{arith}
 use Rattle.writing.proofs.groups.put_use.Statement.{statement}
