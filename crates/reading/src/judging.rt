@@ -4,7 +4,6 @@ use columns::dates::read_date;
 use columns::decimals::Format;
 use columns::texts::equal;
 use columns::texts::is_blank;
-use columns::texts::trimmed_length;
 use fields::codes::is_antenna;
 use fields::codes::is_basis;
 use fields::codes::is_carrier;
@@ -29,15 +28,18 @@ use fields::remarks::is_remarks;
 use fields::tenths::is_tenths;
 use filing::Outcome;
 use filing::rules::first_broken;
+use station::between::is_repeater_name;
+use station::between::is_round;
+use station::between::never_both;
 ghost use mathlib.Core.Path.{_≡_};
 ghost use lib.ListN.{length};
 ghost use mathlib.Core.Bool.{not};
 ghost use Rattle.columns.specs.Dates.{dayGood};
-ghost use Rattle.columns.specs.Texts.{blank, trimmed, endsIn};
+ghost use Rattle.columns.specs.Texts.{blank};
 ghost use Rattle.fields.specs.Positions.{positionGood};
 ghost use Rattle.filing.specs.Rules.{All, firstBroken};
 ghost use Rattle.station.specs.Places.{fieldsOf};
-ghost use Rattle.station.specs.Between.{never, roundAntenna, firstBetween, lastBetween};
+ghost use Rattle.station.specs.Between.{firstBetween, lastBetween};
 ghost use Rattle.station.specs.Calls.{readOutcome};
 ghost use Rattle.station.specs.Codes.{valueOf, stationCode};
 ghost use Rattle.station.specs.Rules.{channelFields, siteFields, emissionFields, antennaFields, filingFields, fieldRules};
@@ -167,37 +169,11 @@ fn field_code(rec: &[u8]) -> u8
     filing_code(rec)
 }
 
-// The two never stand together.
-fn never_both(x: bool, y: bool) -> bool
-    ensures { λ r. ⌜ r ≡ never x y ⌝ }
-{
-    if x { !y } else { true }
-}
-
 // Not all spaces.
 fn is_filled(s: &[u8]) -> bool
     ensures { λ r. ⌜ r ≡ not (blank (now (s .entry))) ⌝ }
 {
     !is_blank(s)
-}
-
-// 4A, trailing spaces off, ends in _R.
-fn is_repeater_name(s: &[u8]) -> bool
-    ensures { λ r. ⌜ r ≡ endsIn "_R" (trimmed (now (s .entry))) ⌝ }
-{
-    let n = trimmed_length(s);
-    if n < 2 {
-        return false;
-    }
-    let from = n - 2;
-    equal(b"_R", &s[from..n])
-}
-
-// The antenna type of no direction.
-fn is_round(s: &[u8]) -> bool
-    ensures { λ r. ⌜ r ≡ roundAntenna (now (s .entry)) ⌝ }
-{
-    equal(b"000ND00", s)
 }
 
 // Rules 31 to 34, where 1 to 30 hold.
