@@ -322,7 +322,7 @@ pub fn read_station(rec: &[u8]) -> ReadStation
     let outcome = check_station(rec);
     if is_done(outcome) {
         return ReadStation {
-            outcome,
+            outcome: Outcome::Done,
             station: station_in(rec),
         };
     }

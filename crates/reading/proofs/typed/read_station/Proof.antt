@@ -28,15 +28,15 @@ use Rattle.reading.proofs.typed.read_station.Tie as tie
 abbrev done : Outcome → Bool
 done o = eqb (refusal o) 0
 
--- then it has its length and no code,
-accepted : (r : List ℕ) → done (readOutcome r) ≡ true → (length r ≡ recordLength) × (stationCode r ≡ 0)
+-- then it has its length and no code, and reading it is done,
+accepted : (r : List ℕ) → done (readOutcome r) ≡ true → (length r ≡ recordLength) × (stationCode r ≡ 0) × (outcome.Done ≡ readOutcome r)
 unfolding readOutcome judged refusal
 accepted r e =
-    let both = by (sized recordLength r) (eqb (stationCode r) 0) (stationCode r) e in
-    (eqb-true (length r) recordLength (both .0), eqb-true (stationCode r) 0 (both .1))
+    let all = by (sized recordLength r) (eqb (stationCode r) 0) (stationCode r) e in
+    (eqb-true (length r) recordLength (all .0), eqb-true (stationCode r) 0 (all .1), all .2)
   where
-    by : (b z : Bool) (k : ℕ) → done (cond b (cond z outcome.Done (outcome.RuleBroken k)) outcome.RecordLength) ≡ true → (b ≡ true) × (z ≡ true)
-    by true true k e = (refl, refl)
+    by : (b z : Bool) (k : ℕ) → let o = cond b (cond z outcome.Done (outcome.RuleBroken k)) outcome.RecordLength in done o ≡ true → (b ≡ true) × (z ≡ true) × (outcome.Done ≡ o)
+    by true true k e = (refl, refl, refl)
     by true false k e = absurd (false≢true e)
     by false z k e = absurd (false≢true e)
 
@@ -72,7 +72,8 @@ station-in-requires c κs =
 returns : tie.Need-returns
 returns c =
     let r = now (c .before .before .before .before .before .args .rec) in
-    (c .before .before .before .check-station .ensures, c .station-in .ensures ∙ handed r true (sym (tested (c .before .before)) ∙ c .before .if1 .taken))
+    let ended : done (readOutcome r) ≡ true = sym (tested (c .before .before)) ∙ c .before .if1 .taken in
+    (accepted r ended .2, c .station-in .ensures ∙ handed r true ended)
 
 empty-station-requires : tie.Need-empty-station-requires
 empty-station-requires c κs = search needs
