@@ -1,8 +1,7 @@
 -- Field 12, a whole number or blank, is a kind of column.
 -- Assumes nothing.
-use mathlib.Core.Path.{_≡_, refl, sym, ap, _∙_}
-use mathlib.Core.Bool.{Bool, true, false, false≢true}
-use mathlib.Core.List.{List}
+use mathlib.Core.Path.{_≡_, refl}
+use mathlib.Core.Bool.{true}
 use Prim.Native.Nat.{ℕ, _^_, _<_}
 use native.Mathlib.Omega.{arith}
 use lib.ListN.{length, replicate}
@@ -12,7 +11,7 @@ use Rattle.columns.specs.declared.numbers.Whole.{Whole}
 use Rattle.columns.specs.declared.numbers.Whole.the-variants as whole
 use Rattle.columns.proofs.RoundTrip.{whole-trip}
 use Rattle.columns.proofs.ColumnLaws.{Column, whole-column, whole-below, skip-spaces}
-use Rattle.header.specs.Values.{serialPasses, inSerial, serialGood, serialOf, serialFits, spellSerial}
+use Rattle.header.specs.Values.{inSerial, serialGood, serialOf, serialFits, spellSerial}
 use Rattle.header.specs.declared.Serial.{Serial}
 use Rattle.header.specs.declared.Serial.the-variants as serial
 

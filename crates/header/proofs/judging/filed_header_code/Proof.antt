@@ -1,5 +1,4 @@
 -- `header::judging::filed_header_code` meets its contract: the count is judged where the header breaks no rule of its own. Assumes nothing.
-use mathlib.Core.Path.{_∙_}
 use borrow.Author.Tests.{eq-eqb, ne-eqb}
 use Rattle.header.specs.Places.{headerFields}
 use Rattle.header.specs.Values.{headerOf}

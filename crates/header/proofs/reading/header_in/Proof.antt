@@ -177,7 +177,37 @@ text7-requires c κs = search needs
 
 returns : tie.Need-returns
 unfolding headerValue headerOf headerFields
-returns c = λ k. record { number = c .before .before .before .before .before .before .before .before .before .before .before .before .before .before .before .before .before .before .before .before .before .before .before .before .before .before .amount-in .ensures k; content = c .before .before .before .before .before .before .before .before .before .before .before .before .before .before .before .before .before .before .before .before .before .before .before .before .text80 .ensures k; letter = c .before .before .before .before .before .before .before .before .before .before .before .before .before .before .before .before .before .before .before .before .before .before .byte .ensures k; origin = c .before .before .before .before .before .before .before .before .before .before .before .before .before .before .before .before .before .before .before .before .text3 .ensures k; mail = c .before .before .before .before .before .before .before .before .before .before .before .before .before .before .before .before .before .before .text40 .ensures k; telephone = c .before .before .before .before .before .before .before .before .before .before .before .before .before .before .before .before .text20 .ensures k; fax = c .before .before .before .before .before .before .before .before .before .before .before .before .before .before .text202 .ensures k; person = c .before .before .before .before .before .before .before .before .before .before .before .before .text203 .ensures k; count = c .before .before .before .before .before .before .before .before .before .before .amount-in2 .ensures k; date = c .before .before .before .before .before .before .before .before .day-in .ensures k; destination = c .before .before .before .before .before .before .text32 .ensures k; serial = c .before .before .before .before .serial-in .ensures k; version = c .before .before .text33 .ensures k; reserve = c .text7 .ensures k }
+returns c =
+    let reserve = c in
+    let version = reserve .before .before in
+    let serial = version .before .before in
+    let destination = serial .before .before in
+    let date = destination .before .before in
+    let count = date .before .before in
+    let person = count .before .before in
+    let fax = person .before .before in
+    let telephone = fax .before .before in
+    let mail = telephone .before .before in
+    let origin = mail .before .before in
+    let letter = origin .before .before in
+    let content = letter .before .before in
+    let number = content .before .before in
+    λ k. record {
+      number = number .amount-in .ensures k;
+      content = content .text80 .ensures k;
+      letter = letter .byte .ensures k;
+      origin = origin .text3 .ensures k;
+      mail = mail .text40 .ensures k;
+      telephone = telephone .text20 .ensures k;
+      fax = fax .text202 .ensures k;
+      person = person .text203 .ensures k;
+      count = count .amount-in2 .ensures k;
+      date = date .day-in .ensures k;
+      destination = destination .text32 .ensures k;
+      serial = serial .serial-in .ensures k;
+      version = version .text33 .ensures k;
+      reserve = reserve .text7 .ensures k;
+    }
 
 pub header-in-spec : {M : Type 1} → statement M
 header-in-spec =

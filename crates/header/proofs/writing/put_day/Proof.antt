@@ -1,6 +1,6 @@
 -- `header::writing::put_day` meets its contract: a date that fits is written. Assumes nothing.
 use mathlib.Core.Path.{_≡_, _∙_}
-use mathlib.Core.Bool.{true, false, false≢true}
+use mathlib.Core.Bool.{true, false≢true}
 use borrow.Author.Tests.{eq-eqb}
 use Rattle.columns.specs.Dates.{dayFits, dateFits}
 use Rattle.columns.specs.declared.dates.Day.{Day}

@@ -2,7 +2,7 @@
 use mathlib.Core.Path.{_≡_, refl, sym}
 use mathlib.Core.Bool.{Bool}
 use mathlib.Core.List.{List}
-use lib.ListN.{length, take, drop}
+use lib.ListN.{length, drop}
 use Rattle.header.specs.Rules.{typedHeaderRules}
 use Rattle.header.proofs.OrderLaws.{Passed, none-yet, pass, fail, none-left}
 use borrow.Author.Needs.{needs}
