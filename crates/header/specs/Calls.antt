@@ -9,7 +9,7 @@ use Rattle.filing.specs.declared.Outcome.{Outcome}
 use Rattle.filing.specs.declared.Outcome.the-variants as outcome
 use Rattle.header.specs.Values.{emptyHeader}
 use Rattle.header.specs.Spelling.{spellHeader}
-use Rattle.header.specs.Codes.{headerValue, headerCode, typedHeaderCode}
+use Rattle.header.specs.Codes.{headerValue, headerCode, typedHeaderCode, filedHeaderCode}
 use Rattle.header.specs.declared.Header.{Header}
 
 -- Reading a record uses 6 and 9.
@@ -27,3 +27,7 @@ writeHeaderOutcome h buffer = cond (sized recordLength buffer) (judged (typedHea
 -- It leaves the header's spelling there, and on a refusal every byte as it was.
 unfoldable pub writtenHeader : Header → List ℕ → List ℕ
 writtenHeader h buffer = ifDone (writeHeaderOutcome h buffer) (spellHeader h) buffer
+
+-- In a file of n stations the header is judged with code 15.
+unfoldable pub filedHeaderOutcome : List ℕ → ℕ → Outcome
+filedHeaderOutcome r n = cond (sized recordLength r) (judged (filedHeaderCode r n)) outcome.RecordLength

@@ -7,12 +7,14 @@ use crate::values::is_whole;
 use columns::sets::Set;
 use columns::texts::equal;
 use columns::texts::is_left_text;
+use filing::Outcome;
 ghost use mathlib.Core.Path.{_≡_};
 ghost use lib.ListN.{length, take, drop};
 ghost use Rattle.filing.specs.Rules.{firstBroken};
 ghost use Rattle.header.specs.Places.{headerFields};
 ghost use Rattle.header.specs.Rules.{headerRules};
 ghost use Rattle.header.specs.Codes.{headerCode, filedHeaderCode};
+ghost use Rattle.header.specs.Calls.{filedHeaderOutcome};
 
 // The first broken code of 1 to 7, what the file is and who sent it; 0 means none.
 fn sender_code(rec: &[u8]) -> u8
@@ -73,7 +75,7 @@ fn filing_code(rec: &[u8]) -> u8
 }
 
 // The first broken code of a header's record, 1 to 14; 0 means none.
-pub fn header_code(rec: &[u8]) -> u8
+pub(crate) fn header_code(rec: &[u8]) -> u8
     requires { ⌜ length (now rec) ≡ 219 ⌝ }
     ensures { λ r. ⌜ r ≡ headerCode (now (rec .entry)) ⌝ }
 {
@@ -85,7 +87,7 @@ pub fn header_code(rec: &[u8]) -> u8
 }
 
 // The code of a header in its file of n stations: 15 where it breaks no rule and its count is not n.
-pub fn filed_header_code(rec: &[u8], n: usize) -> u8
+fn filed_header_code(rec: &[u8], n: usize) -> u8
     requires { ⌜ length (now rec) ≡ 219 ⌝ }
     ensures { λ r. ⌜ r ≡ filedHeaderCode (now (rec .entry)) n ⌝ }
 {
@@ -97,4 +99,18 @@ pub fn filed_header_code(rec: &[u8], n: usize) -> u8
         return 15;
     }
     0
+}
+
+// Whether a header of any length can stand in a file of n stations: 6, 9 with its code, 1 to 15, or done.
+pub fn check_filed_header(rec: &[u8], n: usize) -> Outcome
+    ensures { λ r. ⌜ r ≡ filedHeaderOutcome (now (rec .entry)) n ⌝ }
+{
+    if rec.len() != 219 {
+        return Outcome::RecordLength;
+    }
+    let code = filed_header_code(rec, n);
+    if code == 0 {
+        return Outcome::Done;
+    }
+    Outcome::RuleBroken(code)
 }

@@ -211,7 +211,7 @@ fn last_between(rec: &[u8]) -> u8
 }
 
 // The first broken rule of a record, 0 where none is.
-pub fn station_code(rec: &[u8]) -> u8
+fn station_code(rec: &[u8]) -> u8
     requires { ⌜ length (now rec) ≡ 219 ⌝ }
     ensures { λ r. ⌜ r ≡ stationCode (now (rec .entry)) ⌝ }
 {

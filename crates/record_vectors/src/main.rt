@@ -31,20 +31,6 @@ fn read_header(s: &[u8]) {
     put_outcome(outcome);
 }
 
-// The code of a header in a file of two stations.
-fn filed(s: &[u8]) {
-    if s.len() != 219 {
-        put(b" 6\n");
-        return;
-    }
-    let code = header::judging::filed_header_code(s, 2);
-    if code == 0 {
-        put(b" 0\n");
-        return;
-    }
-    put_code(code);
-}
-
 // One vector: its letter, and the library's answer.
 fn answer(kind: u8, s: &[u8]) {
     let letter = [kind];
@@ -52,7 +38,7 @@ fn answer(kind: u8, s: &[u8]) {
     match kind {
         b'S' => put_outcome(reading::judging::check_station(s)),
         b'H' => read_header(s),
-        b'h' => filed(s),
+        b'h' => put_outcome(header::judging::check_filed_header(s, 2)),
         _ => put(b" no such kind\n"),
     }
 }
