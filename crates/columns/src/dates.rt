@@ -12,7 +12,7 @@ ghost use lib.ListN.{length};
 ghost use Rattle.columns.specs.Sets.{isDigit};
 ghost use Rattle.columns.specs.Texts.{every, sized};
 ghost use Rattle.columns.specs.Numbers.{number};
-ghost use Rattle.columns.specs.Dates.{within, dateRule, dateIn, dateOf, spellDate, dayFits, spellDay};
+ghost use Rattle.columns.specs.Dates.{within, dateRule, dateIn, dateOf, dayOf, spellDate, dayFits, spellDay};
 
 // A day of the calendar as it is filed.
 pub struct Date {
@@ -96,6 +96,17 @@ pub fn read_date(s: &[u8]) -> Dated
         Dated::Filled(d)
     } else {
         Dated::Bad
+    }
+}
+
+// The date that is there, blank where there is none.
+pub fn day_in(s: &[u8]) -> Day
+    ensures { λ r. ⌜ r ≡ dayOf (now (s .entry)) ⌝ }
+{
+    match read_date(s) {
+        Dated::Bad => Day::Blank,
+        Dated::Blank => Day::Blank,
+        Dated::Filled(d) => Day::Filled(d),
     }
 }
 

@@ -11,7 +11,7 @@ ghost use mathlib.Core.Path.{_≡_};
 ghost use Rattle.columns.specs.Sets.{is};
 ghost use Rattle.columns.specs.Texts.{byteGood};
 ghost use Rattle.columns.specs.Numbers.{wholeOf, wholeFilled, amount};
-ghost use Rattle.columns.specs.Dates.{dateGood, dayOf, dateFits};
+ghost use Rattle.columns.specs.Dates.{dateGood, dateFits};
 ghost use Rattle.header.specs.Values.{serialGood, serialOf, serialFits};
 
 // A whole number is there.
@@ -72,17 +72,6 @@ pub(crate) fn is_serial(s: &[u8]) -> bool
         Whole::Bad => false,
         Whole::Blank => true,
         Whole::Filled(_) => true,
-    }
-}
-
-// The date that is there, blank where there is none.
-pub(crate) fn day_in(s: &[u8]) -> Day
-    ensures { λ r. ⌜ r ≡ dayOf (now (s .entry)) ⌝ }
-{
-    match read_date(s) {
-        Dated::Bad => Day::Blank,
-        Dated::Blank => Day::Blank,
-        Dated::Filled(d) => Day::Filled(d),
     }
 }
 

@@ -1,8 +1,7 @@
 // A station read from its record.
 use crate::judging::check_station;
-use columns::dates::Dated;
 use columns::dates::Day;
-use columns::dates::read_date;
+use columns::dates::day_in;
 use columns::decimals::Format;
 use fields::distances::Height;
 use fields::distances::Kilometres;
@@ -28,7 +27,6 @@ ghost use mathlib.Core.Path.{_≡_};
 ghost use mathlib.Core.Bool.{true};
 ghost use lib.ListN.{length};
 ghost use lib.Dec.{eqb};
-ghost use Rattle.columns.specs.Dates.{dayOf};
 ghost use Rattle.fields.specs.Positions.{positionGood, positionOf};
 ghost use Rattle.filing.specs.Outcomes.{refusal};
 ghost use Rattle.filing.specs.Rules.{All};
@@ -42,17 +40,6 @@ ghost use Rattle.reading.specs.Promises.{StationRead};
 pub struct ReadStation {
     pub outcome: Outcome,
     pub station: Station,
-}
-
-// The date that is there, blank where there is none.
-fn day_in(s: &[u8]) -> Day
-    ensures { λ r. ⌜ r ≡ dayOf (now (s .entry)) ⌝ }
-{
-    match read_date(s) {
-        Dated::Bad => Day::Blank,
-        Dated::Blank => Day::Blank,
-        Dated::Filled(d) => Day::Filled(d),
-    }
 }
 
 // The position of 4C, where it can be read.

@@ -1,8 +1,8 @@
--- `header::values::day_in` meets its contract, by the answer of the reader that it calls. Assumes nothing.
+-- `columns::dates::day_in` meets its contract, by the answer of the reader that it calls. Assumes nothing.
 use Rattle.columns.specs.Dates.{dayOf}
 use borrow.Author.Needs.{needs}
-use Rattle.header.proofs.values.day_in.Statement.{statement}
-use Rattle.header.proofs.values.day_in.Tie as tie
+use Rattle.columns.proofs.dates.day_in.Statement.{statement}
+use Rattle.columns.proofs.dates.day_in.Tie as tie
 
 read-date-requires : tie.Need-read-date-requires
 read-date-requires c κs = search needs
