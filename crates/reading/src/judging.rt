@@ -27,6 +27,7 @@ use fields::positions::read_position;
 use fields::remarks::is_remarks;
 use fields::tenths::is_tenths;
 use filing::Outcome;
+use filing::outcomes::judged;
 use filing::rules::first_broken;
 use station::between::is_repeater_name;
 use station::between::is_round;
@@ -233,9 +234,5 @@ pub fn check_station(rec: &[u8]) -> Outcome
     if rec.len() != 219 {
         return Outcome::RecordLength;
     }
-    let code = station_code(rec);
-    if code == 0 {
-        return Outcome::Done;
-    }
-    Outcome::RuleBroken(code)
+    judged(station_code(rec))
 }

@@ -17,6 +17,7 @@ use fields::positions::read_position;
 use fields::tenths::Tenths;
 use fields::tenths::read_tenths;
 use filing::Outcome;
+use filing::outcomes::is_done;
 use station::Antenna;
 use station::Channel;
 use station::Emission;
@@ -26,9 +27,7 @@ use station::Station;
 ghost use mathlib.Core.Path.{_≡_};
 ghost use mathlib.Core.Bool.{true};
 ghost use lib.ListN.{length};
-ghost use lib.Dec.{eqb};
 ghost use Rattle.fields.specs.Positions.{positionGood, positionOf};
-ghost use Rattle.filing.specs.Outcomes.{refusal};
 ghost use Rattle.filing.specs.Rules.{All};
 ghost use Rattle.station.specs.Places.{fieldsOf};
 ghost use Rattle.station.specs.Rules.{fieldRules};
@@ -292,16 +291,6 @@ pub fn empty_station() -> Station
     }
 }
 
-// Nothing was refused.
-fn is_done(outcome: Outcome) -> bool
-    ensures { λ r. ⌜ r ≡ eqb (refusal outcome) 0 ⌝ }
-{
-    match outcome {
-        Outcome::Done => true,
-        _ => false,
-    }
-}
-
 // Reads a station's record; it is refused where it has not 219 bytes, or breaks a rule.
 pub fn read_station(rec: &[u8]) -> ReadStation
     ensures { λ r. ⌜ StationRead (now (rec .entry)) r ⌝ }
@@ -309,7 +298,7 @@ pub fn read_station(rec: &[u8]) -> ReadStation
     let outcome = check_station(rec);
     if is_done(outcome) {
         return ReadStation {
-            outcome: Outcome::Done,
+            outcome,
             station: station_in(rec),
         };
     }

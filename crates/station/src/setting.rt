@@ -8,6 +8,8 @@ use fields::distances::Height;
 use fields::distances::Metres;
 use fields::tenths::Tenths;
 use filing::Outcome;
+use filing::outcomes::is_done;
+use filing::outcomes::judged;
 ghost use Rattle.station.specs.Promises.{StationSet, PowerSet, AzimuthSet, ElevationSet, HeightSet, GroundSet};
 
 // How setting ended, and the station: the changed one, or on a refusal the one that was given.
@@ -20,15 +22,15 @@ pub struct Settled {
 fn settle(given: Station, changed: Station) -> Settled
     ensures { λ r. ⌜ StationSet given changed r ⌝ }
 {
-    let code = typed_code(changed);
-    if code == 0 {
+    let outcome = judged(typed_code(changed));
+    if is_done(outcome) {
         return Settled {
-            outcome: Outcome::Done,
+            outcome,
             station: changed,
         };
     }
     Settled {
-        outcome: Outcome::RuleBroken(code),
+        outcome,
         station: given,
     }
 }

@@ -1,6 +1,5 @@
 -- `reading::judging::check_station` meets its contract. Assumes nothing.
 use borrow.Author.Tests.{eq-eqb, ne-eqb}
-use Rattle.filing.specs.Outcomes.{judged}
 use Rattle.station.specs.Calls.{readOutcome}
 use borrow.Author.Needs.{needs}
 use Rattle.reading.proofs.judging.check_station.Statement.{statement}
@@ -13,13 +12,12 @@ returns c = rw (ne-eqb _ _ (c .if1 .taken))
 station-code-requires : tie.Need-station-code-requires
 station-code-requires c κs = search needs
 
-returns-2 : tie.Need-returns-2
-unfolding readOutcome judged
-returns-2 c = rw (eq-eqb _ _ (c .before .before .if1 .left), ← c .before .station-code .ensures, c .if2 .taken)
+judged-requires : tie.Need-judged-requires
+judged-requires c κs = search needs
 
-returns-3 : tie.Need-returns-3
-unfolding readOutcome judged
-returns-3 c = rw (eq-eqb _ _ (c .before .before .if1 .left), ← c .before .station-code .ensures, ne-eqb (c .before .station-code .result) 0 (c .if2 .left))
+returns-2 : tie.Need-returns-2
+unfolding readOutcome
+returns-2 c = rw (eq-eqb _ _ (c .before .before .if1 .left), ← c .before .station-code .ensures) (c .judged .ensures)
 
 pub check-station-spec : {M : Type 1} → statement M
-check-station-spec = tie.close (tie.spec returns station-code-requires returns-2 returns-3)
+check-station-spec = tie.close (tie.spec returns station-code-requires judged-requires returns-2)

@@ -1,6 +1,7 @@
--- `station::setting::settle` meets its contract: the station is the changed one exactly where its code is 0. Assumes nothing.
-use borrow.Author.Tests.{ne-eqb}
-use Rattle.filing.specs.Outcomes.{refusal, ifDone, judged}
+-- `station::setting::settle` meets its contract: the station is the changed one exactly where nothing is refused. Assumes nothing.
+use mathlib.Core.Path.{_≡_, sym, ap, _∙_}
+use Rattle.filing.specs.Outcomes.{judged}
+use Rattle.filing.proofs.CallLaws.{done, handed}
 use Rattle.station.specs.Calls.{setOutcome, setStation}
 use borrow.Author.Needs.{needs}
 use Rattle.station.proofs.setting.settle.Statement.{statement}
@@ -9,18 +10,32 @@ use Rattle.station.proofs.setting.settle.Tie as tie
 typed-code-requires : tie.Need-typed-code-requires
 typed-code-requires c κs = search needs
 
+judged-requires : tie.Need-judged-requires
+judged-requires c κs = search needs
+
+is-done-requires : tie.Need-is-done-requires
+is-done-requires c κs = search needs
+
+-- how it ends is how the changed station is judged,
+ended : (c : tie.After-judged) → c .judged .result ≡ setOutcome (c .before .before .args .changed)
+unfolding setOutcome
+ended c = c .judged .ensures ∙ ap judged (c .before .typed-code .ensures)
+
+-- and that is what the test is about
+tested : (c : tie.After-is-done) → c .is-done .result ≡ done (setOutcome (c .before .before .before .args .changed))
+tested c = c .is-done .ensures ∙ ap done (ended (c .before))
+
 returns : tie.Need-returns
-unfolding setOutcome setStation judged ifDone refusal
+unfolding setStation
 returns c =
-    let code = c .before .typed-code .ensures in
-    (rw (← code, c .if1 .taken), rw (← code, c .if1 .taken))
+    let a = c .before .before .before .before .args in
+    (ended (c .before .before), handed (setOutcome (a .changed)) (a .changed) (a .given) (sym (c .if1 .taken) ∙ tested (c .before)))
 
 returns-2 : tie.Need-returns-2
-unfolding setOutcome setStation judged ifDone refusal
+unfolding setStation
 returns-2 c =
-    let code = c .before .typed-code .ensures in
-    let broken = ne-eqb (c .before .typed-code .result) 0 (c .if1 .left) in
-    (rw (← code, broken), rw (← code, broken))
+    let a = c .before .before .before .before .args in
+    (ended (c .before .before), handed (setOutcome (a .changed)) (a .changed) (a .given) (sym (c .if1 .left) ∙ tested (c .before)))
 
 pub settle-spec : {M : Type 1} → statement M
-settle-spec = tie.close (tie.spec typed-code-requires returns returns-2)
+settle-spec = tie.close (tie.spec typed-code-requires judged-requires is-done-requires returns returns-2)

@@ -1,4 +1,4 @@
--- `reading::typed::is_done` meets its contract: every variant but the first is a refusal. Assumes nothing.
+-- `filing::outcomes::is_done` meets its contract: every variant but the first is a refusal. Assumes nothing.
 use mathlib.Core.Path.{_≡_, refl}
 use mathlib.Core.Bool.{false}
 use mathlib.Core.List.{List, [], _∷_}
@@ -6,13 +6,13 @@ use Prim.Native.Nat.{ℕ}
 use lib.Dec.{eqb}
 use types.Run.{OneOf, miss}
 use denote.Enum.Declared.{tagOf}
 use Rattle.filing.specs.Outcomes.{refusal}
 use Rattle.filing.specs.declared.Outcome.{Outcome}
 use Rattle.filing.specs.declared.Outcome.the-variants as outcome
 use Rattle.filing.proofs.Outcome.{the-type}
 use borrow.Author.Needs.{needs}
-use Rattle.reading.proofs.typed.is_done.Statement.{statement}
-use Rattle.reading.proofs.typed.is_done.Tie as tie
+use Rattle.filing.proofs.outcomes.is_done.Statement.{statement}
+use Rattle.filing.proofs.outcomes.is_done.Tie as tie
 
 -- the variants after the first
 abbrev later : List ℕ
