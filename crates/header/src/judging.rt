@@ -8,13 +8,14 @@ use columns::sets::Set;
 use columns::texts::equal;
 use columns::texts::is_left_text;
 use filing::Outcome;
+use filing::outcomes::judged;
 ghost use mathlib.Core.Path.{_≡_};
 ghost use lib.ListN.{length, take, drop};
 ghost use Rattle.filing.specs.Rules.{firstBroken};
 ghost use Rattle.header.specs.Places.{headerFields};
 ghost use Rattle.header.specs.Rules.{headerRules};
 ghost use Rattle.header.specs.Codes.{headerCode, filedHeaderCode};
-ghost use Rattle.header.specs.Calls.{filedHeaderOutcome};
+ghost use Rattle.header.specs.Calls.{readHeaderOutcome, filedHeaderOutcome};
 
 // The first broken code of 1 to 7, what the file is and who sent it; 0 means none.
 fn sender_code(rec: &[u8]) -> u8
@@ -75,7 +76,7 @@ fn filing_code(rec: &[u8]) -> u8
 }
 
 // The first broken code of a header's record, 1 to 14; 0 means none.
-pub(crate) fn header_code(rec: &[u8]) -> u8
+fn header_code(rec: &[u8]) -> u8
     requires { ⌜ length (now rec) ≡ 219 ⌝ }
     ensures { λ r. ⌜ r ≡ headerCode (now (rec .entry)) ⌝ }
 {
@@ -84,6 +85,16 @@ pub(crate) fn header_code(rec: &[u8]) -> u8
         return code;
     }
     filing_code(rec)
+}
+
+// Whether a record of any length can be read as a header: 6, 9 with its code, 1 to 14, or done.
+pub fn check_header(rec: &[u8]) -> Outcome
+    ensures { λ r. ⌜ r ≡ readHeaderOutcome (now (rec .entry)) ⌝ }
+{
+    if rec.len() != 219 {
+        return Outcome::RecordLength;
+    }
+    judged(header_code(rec))
 }
 
 // The code of a header in its file of n stations: 15 where it breaks no rule and its count is not n.
@@ -108,9 +119,5 @@ pub fn check_filed_header(rec: &[u8], n: usize) -> Outcome
     if rec.len() != 219 {
         return Outcome::RecordLength;
     }
-    let code = filed_header_code(rec, n);
-    if code == 0 {
-        return Outcome::Done;
-    }
-    Outcome::RuleBroken(code)
+    judged(filed_header_code(rec, n))
 }

@@ -1,13 +1,14 @@
 // A header read from its record.
 use crate::Header;
 use crate::Serial;
-use crate::judging::header_code;
+use crate::judging::check_header;
 use crate::values::amount_in;
 use crate::values::serial_in;
 use columns::dates::Day;
 use columns::dates::day_in;
 use columns::texts::byte;
 use filing::Outcome;
+use filing::outcomes::is_done;
 ghost use mathlib.Core.Path.{_≡_};
 ghost use lib.ListN.{length};
 ghost use Rattle.header.specs.Values.{emptyHeader};
@@ -141,21 +142,15 @@ pub fn empty_header() -> Header
 pub fn read_header(rec: &[u8]) -> ReadHeader
     ensures { λ r. ⌜ HeaderRead (now (rec .entry)) r ⌝ }
 {
-    if rec.len() != 219 {
+    let outcome = check_header(rec);
+    if is_done(outcome) {
         return ReadHeader {
-            outcome: Outcome::RecordLength,
-            header: empty_header(),
-        };
-    }
-    let code = header_code(rec);
-    if code != 0 {
-        return ReadHeader {
-            outcome: Outcome::RuleBroken(code),
-            header: empty_header(),
+            outcome,
+            header: header_in(rec),
         };
     }
     ReadHeader {
-        outcome: Outcome::Done,
-        header: header_in(rec),
+        outcome,
+        header: empty_header(),
     }
 }

@@ -1,6 +1,5 @@
 -- `header::judging::check_filed_header` meets its contract. Assumes nothing.
 use borrow.Author.Tests.{eq-eqb, ne-eqb}
-use Rattle.filing.specs.Outcomes.{judged}
 use Rattle.header.specs.Calls.{filedHeaderOutcome}
 use borrow.Author.Needs.{needs}
 use Rattle.header.proofs.judging.check_filed_header.Statement.{statement}
@@ -13,13 +12,12 @@ returns c = rw (ne-eqb _ _ (c .if1 .taken))
 filed-header-code-requires : tie.Need-filed-header-code-requires
 filed-header-code-requires c κs = search needs
 
-returns-2 : tie.Need-returns-2
-unfolding filedHeaderOutcome judged
-returns-2 c = rw (eq-eqb _ _ (c .before .before .if1 .left), ← c .before .filed-header-code .ensures, c .if2 .taken)
+judged-requires : tie.Need-judged-requires
+judged-requires c κs = search needs
 
-returns-3 : tie.Need-returns-3
-unfolding filedHeaderOutcome judged
-returns-3 c = rw (eq-eqb _ _ (c .before .before .if1 .left), ← c .before .filed-header-code .ensures, ne-eqb (c .before .filed-header-code .result) 0 (c .if2 .left))
+returns-2 : tie.Need-returns-2
+unfolding filedHeaderOutcome
+returns-2 c = rw (eq-eqb _ _ (c .before .before .if1 .left), ← c .before .filed-header-code .ensures) (c .judged .ensures)
 
 pub check-filed-header-spec : {M : Type 1} → statement M
-check-filed-header-spec = tie.close (tie.spec returns filed-header-code-requires returns-2 returns-3)
+check-filed-header-spec = tie.close (tie.spec returns filed-header-code-requires judged-requires returns-2)

@@ -1,54 +1,63 @@
--- `header::reading::read_header` meets its contract, by the three ways a call ends. Assumes nothing.
-use mathlib.Core.Path.{refl}
+-- `header::reading::read_header` meets its contract: a record that is not refused has 219 bytes. Assumes nothing.
+use mathlib.Core.Path.{_≡_, refl, sym, ap, _∙_}
+use mathlib.Core.Bool.{true}
+use mathlib.Core.List.{List}
+use Prim.Native.Nat.{ℕ}
+use lib.ListN.{length}
 use denote.Ref.{now}
+use Rattle.filing.specs.Fields.{recordLength}
 use Rattle.filing.specs.Outcomes.{refusal}
 use Rattle.filing.specs.declared.Outcome.the-variants as outcome
+use Rattle.filing.proofs.CallLaws.{done, accepted, handed}
 use Rattle.header.specs.Values.{emptyHeader}
 use Rattle.header.specs.Codes.{headerValue, headerCode}
 use Rattle.header.specs.Calls.{readHeaderOutcome, readHeader}
-use Rattle.filing.proofs.CallLaws.{wrong-length, rule-broken, call-done}
 use borrow.Author.Needs.{needs}
 use Rattle.header.proofs.reading.read_header.Statement.{statement}
 use Rattle.header.proofs.reading.read_header.Tie as tie
 
+-- a record that is not refused has its length
+fits : (r : List ℕ) → done (readHeaderOutcome r) ≡ true → length r ≡ recordLength
+unfolding readHeaderOutcome refusal
+fits r e = accepted r (headerCode r) outcome.RecordLength refl e .0
+
+check-header-requires : tie.Need-check-header-requires
+check-header-requires c κs = search needs
+
+is-done-requires : tie.Need-is-done-requires
+is-done-requires c κs = search needs
+
+-- what the test says of the record
+tested : (c : tie.After-is-done) → c .is-done .result ≡ done (readHeaderOutcome (now (c .before .before .before .args .rec)))
+tested c = c .is-done .ensures ∙ ap done (c .before .check-header .ensures)
+
+header-in-requires : tie.Need-header-in-requires
+header-in-requires c κs =
+    let r = now (c .before .before .before .before .args .rec) in
+    fits r (sym (tested (c .before)) ∙ c .if1 .taken)
+
+returns : tie.Need-returns
+unfolding readHeader
+returns c =
+    let r = now (c .before .before .before .before .before .args .rec) in
+    (c .before .before .before .check-header .ensures, c .header-in .ensures ∙ handed (readHeaderOutcome r) (headerValue r) emptyHeader (sym (c .before .if1 .taken) ∙ tested (c .before .before)))
+
 empty-header-requires : tie.Need-empty-header-requires
 empty-header-requires c κs = search needs
 
-returns : tie.Need-returns
-unfolding readHeaderOutcome readHeader refusal
-returns c =
-    let r = now (c .before .before .before .args .rec) in
-    wrong-length r (headerCode r) outcome.RecordLength (headerValue r) emptyHeader (c .before .if1 .taken) refl (c .empty-header .ensures)
-
-header-code-requires : tie.Need-header-code-requires
-header-code-requires c κs = search needs
-
-empty-header-requires-2 : tie.Need-empty-header-requires-2
-empty-header-requires-2 c κs = search needs
-
 returns-2 : tie.Need-returns-2
-unfolding readHeaderOutcome readHeader
+unfolding readHeader
 returns-2 c =
     let r = now (c .before .before .before .before .before .args .rec) in
-    rule-broken r (headerCode r) outcome.RecordLength (headerValue r) emptyHeader (c .before .before .before .if1 .left) (c .before .before .header-code .ensures) (c .before .if2 .taken) (c .empty-header2 .ensures)
-
-header-in-requires : tie.Need-header-in-requires
-header-in-requires c κs = search needs
-
-returns-3 : tie.Need-returns-3
-unfolding readHeaderOutcome readHeader
-returns-3 c =
-    let r = now (c .before .before .before .before .before .args .rec) in
-    call-done r (headerCode r) outcome.RecordLength (headerValue r) emptyHeader (c .before .before .before .if1 .left) (c .before .before .header-code .ensures) (c .before .if2 .left) (c .header-in .ensures)
+    (c .before .before .before .check-header .ensures, c .empty-header .ensures ∙ handed (readHeaderOutcome r) (headerValue r) emptyHeader (sym (c .before .if1 .left) ∙ tested (c .before .before)))
 
 pub read-header-spec : {M : Type 1} → statement M
 read-header-spec =
     tie.close
     (tie.spec
-    empty-header-requires
-    returns
-    header-code-requires
-    empty-header-requires-2
-    returns-2
+    check-header-requires
+    is-done-requires
     header-in-requires
-    returns-3)
+    returns
+    empty-header-requires
+    returns-2)

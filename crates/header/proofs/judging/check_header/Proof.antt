@@ -1,0 +1,23 @@
+-- `header::judging::check_header` meets its contract. Assumes nothing.
+use borrow.Author.Tests.{eq-eqb, ne-eqb}
+use Rattle.header.specs.Calls.{readHeaderOutcome}
+use borrow.Author.Needs.{needs}
+use Rattle.header.proofs.judging.check_header.Statement.{statement}
+use Rattle.header.proofs.judging.check_header.Tie as tie
+
+returns : tie.Need-returns
+unfolding readHeaderOutcome
+returns c = rw (ne-eqb _ _ (c .if1 .taken))
+
+header-code-requires : tie.Need-header-code-requires
+header-code-requires c κs = search needs
+
+judged-requires : tie.Need-judged-requires
+judged-requires c κs = search needs
+
+returns-2 : tie.Need-returns-2
+unfolding readHeaderOutcome
+returns-2 c = rw (eq-eqb _ _ (c .before .before .if1 .left), ← c .before .header-code .ensures) (c .judged .ensures)
+
+pub check-header-spec : {M : Type 1} → statement M
+check-header-spec = tie.close (tie.spec returns header-code-requires judged-requires returns-2)
