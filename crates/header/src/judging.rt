@@ -15,7 +15,7 @@ ghost use Rattle.filing.specs.Rules.{firstBroken};
 ghost use Rattle.header.specs.Places.{headerFields};
 ghost use Rattle.header.specs.Rules.{headerRules};
 ghost use Rattle.header.specs.Codes.{headerCode, filedHeaderCode};
-ghost use Rattle.header.specs.Calls.{readHeaderOutcome, filedHeaderOutcome};
+ghost use Rattle.header.specs.Promises.{HeaderChecked, HeaderFiled};
 
 // The first broken code of 1 to 7, what the file is and who sent it; 0 means none.
 fn sender_code(rec: &[u8]) -> u8
@@ -89,7 +89,7 @@ fn header_code(rec: &[u8]) -> u8
 
 // Whether a record of any length can be read as a header: 6, 9 with its code, 1 to 14, or done.
 pub fn check_header(rec: &[u8]) -> Outcome
-    ensures { λ r. ⌜ r ≡ readHeaderOutcome (now (rec .entry)) ⌝ }
+    ensures { λ r. ⌜ HeaderChecked (now (rec .entry)) r ⌝ }
 {
     if rec.len() != 219 {
         return Outcome::RecordLength;
@@ -114,7 +114,7 @@ fn filed_header_code(rec: &[u8], n: usize) -> u8
 
 // Whether a header of any length can stand in a file of n stations: 6, 9 with its code, 1 to 15, or done.
 pub fn check_filed_header(rec: &[u8], n: usize) -> Outcome
-    ensures { λ r. ⌜ r ≡ filedHeaderOutcome (now (rec .entry)) n ⌝ }
+    ensures { λ r. ⌜ HeaderFiled (now (rec .entry)) n r ⌝ }
 {
     if rec.len() != 219 {
         return Outcome::RecordLength;

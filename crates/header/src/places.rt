@@ -1,8 +1,6 @@
 // The places of a header's fourteen fields.
 use filing::Place;
-ghost use mathlib.Core.Path.{_≡_};
-ghost use Rattle.filing.specs.Fields.{placeOf};
-ghost use Rattle.header.specs.Places.{headerPlaces};
+ghost use Rattle.header.specs.Promises.{HeaderPlaced};
 
 // The first column of each field, counted from 1, and its length.
 pub const PLACES: [[usize; 2]; 14] = [
@@ -24,7 +22,7 @@ pub const PLACES: [[usize; 2]; 14] = [
 
 // The place of field number k, counted from 1; column 0 and no length where there is no such field.
 pub fn header_place(k: usize) -> Place
-    ensures { λ r. ⌜ r ≡ placeOf headerPlaces k ⌝ }
+    ensures { λ r. ⌜ HeaderPlaced k r ⌝ }
 {
     if k == 0 {
         return Place {

@@ -11,9 +11,8 @@ use filing::Outcome;
 use filing::outcomes::is_done;
 ghost use mathlib.Core.Path.{_≡_};
 ghost use lib.ListN.{length};
-ghost use Rattle.header.specs.Values.{emptyHeader};
 ghost use Rattle.header.specs.Codes.{headerValue};
-ghost use Rattle.header.specs.Promises.{HeaderRead};
+ghost use Rattle.header.specs.Promises.{HeaderRead, HeaderEmpty};
 
 // How reading ended, and the header: the empty one on a refusal.
 pub struct ReadHeader {
@@ -118,7 +117,7 @@ fn header_in(rec: &[u8]) -> Header
 
 // The empty header: numbers 0, date and file number blank, text all spaces.
 pub fn empty_header() -> Header
-    ensures { λ r. ⌜ r ≡ emptyHeader ⌝ }
+    ensures { λ r. ⌜ HeaderEmpty r ⌝ }
 {
     Header {
         number: 0,

@@ -25,7 +25,7 @@ ghost use Rattle.header.specs.Rules.{typedHeaderRules};
 ghost use Rattle.header.specs.Values.{spellSerial};
 ghost use Rattle.header.specs.Spelling.{headerPieces, spellHeader};
 ghost use Rattle.header.specs.Codes.{typedHeaderCode};
-ghost use Rattle.header.specs.Promises.{HeaderWritten};
+ghost use Rattle.header.specs.Promises.{HeaderJudged, HeaderWritten};
 
 // The first broken code of 1 to 7, what the file is and who sent it; 0 means none.
 fn typed_sender_code(h: Header) -> u8
@@ -96,7 +96,7 @@ fn typed_filing_code(h: Header) -> u8
 
 // The first broken code of a typed header, 1 to 14; 0 means none.
 pub fn typed_header_code(h: Header) -> u8
-    ensures { λ r. ⌜ r ≡ typedHeaderCode h ⌝ }
+    ensures { λ r. ⌜ HeaderJudged h r ⌝ }
 {
     let code = typed_sender_code(h);
     if code != 0 {

@@ -41,9 +41,9 @@ ghost use Rattle.fields.specs.Positions.{positionGood};
 ghost use Rattle.filing.specs.Rules.{All, firstBroken};
 ghost use Rattle.station.specs.Places.{fieldsOf};
 ghost use Rattle.station.specs.Between.{firstBetween, lastBetween};
-ghost use Rattle.station.specs.Calls.{readOutcome};
 ghost use Rattle.station.specs.Codes.{valueOf, stationCode};
 ghost use Rattle.station.specs.Rules.{channelFields, siteFields, emissionFields, antennaFields, filingFields, fieldRules};
+ghost use Rattle.reading.specs.Promises.{StationChecked};
 
 // A date or blank.
 fn is_day(s: &[u8]) -> bool
@@ -229,7 +229,7 @@ fn station_code(rec: &[u8]) -> u8
 
 // Whether a record of any length can be read: 6, 9 with its code, or done.
 pub fn check_station(rec: &[u8]) -> Outcome
-    ensures { λ r. ⌜ r ≡ readOutcome (now (rec .entry)) ⌝ }
+    ensures { λ r. ⌜ StationChecked (now (rec .entry)) r ⌝ }
 {
     if rec.len() != 219 {
         return Outcome::RecordLength;

@@ -31,9 +31,8 @@ ghost use Rattle.fields.specs.Positions.{positionGood, positionOf};
 ghost use Rattle.filing.specs.Rules.{All};
 ghost use Rattle.station.specs.Places.{fieldsOf};
 ghost use Rattle.station.specs.Rules.{fieldRules};
-ghost use Rattle.station.specs.Values.{emptyStation};
 ghost use Rattle.station.specs.Codes.{valueOf};
-ghost use Rattle.reading.specs.Promises.{StationRead};
+ghost use Rattle.reading.specs.Promises.{StationRead, StationEmpty};
 
 // How reading ended, and the station: the empty one on a refusal.
 pub struct ReadStation {
@@ -247,7 +246,7 @@ fn station_in(rec: &[u8]) -> Station
 
 // The empty station: numbers 0, choices the first listed, dates and optional values blank, text all spaces.
 pub fn empty_station() -> Station
-    ensures { λ r. ⌜ r ≡ emptyStation ⌝ }
+    ensures { λ r. ⌜ StationEmpty r ⌝ }
 {
     Station {
         channel: Channel {

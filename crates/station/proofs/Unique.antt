@@ -1,14 +1,19 @@
--- The promises of the calls on typed stations leave one answer.
+-- The promises of the calls on typed stations and on their places leave one answer.
 -- Assumes nothing.
 use mathlib.Core.Path.{_≡_, sym, _∙_}
 use Prim.Native.Nat.{ℕ}
 use Rattle.fields.specs.declared.tenths.Tenths.{Tenths}
 use Rattle.fields.specs.declared.distances.Metres.{Metres}
 use Rattle.fields.specs.declared.distances.Height.{Height}
+use Rattle.filing.specs.declared.Place.{Place}
 use Rattle.station.specs.Setting.{withPower, withAzimuth, withElevation, withHeight, withGround}
-use Rattle.station.specs.Promises.{StationJudged, StationSet, PowerSet, AzimuthSet, ElevationSet, HeightSet, GroundSet}
+use Rattle.station.specs.Promises.{StationPlaced, StationJudged, StationSet, PowerSet, AzimuthSet, ElevationSet, HeightSet, GroundSet}
 use Rattle.station.specs.declared.Station.{Station}
 use Rattle.station.specs.declared.setting.Settled.{Settled}
+
+-- Two answers of `station_place` to one number are equal.
+pub one-place : (k : ℕ) (a b : Place) → StationPlaced k a → StationPlaced k b → a ≡ b
+one-place k a b p q = p ∙ sym q
 
 -- Two answers of `typed_code` to one station are equal.
 pub one-code : (s : Station) (a b : ℕ) → StationJudged s a → StationJudged s b → a ≡ b

@@ -1,14 +1,21 @@
--- What the calls on typed stations promise, as relations between what they are given and their answer.
+-- What the calls on typed stations and on their places promise, as relations between what they are given and their answer.
 use Prim.Native.Nat.{ℕ}
 use mathlib.Core.Path.{_≡_}
 use Rattle.fields.specs.declared.tenths.Tenths.{Tenths}
 use Rattle.fields.specs.declared.distances.Metres.{Metres}
 use Rattle.fields.specs.declared.distances.Height.{Height}
+use Rattle.filing.specs.Fields.{placeOf}
+use Rattle.filing.specs.declared.Place.{Place}
+use Rattle.station.specs.Places.{stationPlaces}
 use Rattle.station.specs.Codes.{typedCode}
 use Rattle.station.specs.Calls.{setOutcome, setStation}
 use Rattle.station.specs.Setting.{withPower, withAzimuth, withElevation, withHeight, withGround}
 use Rattle.station.specs.declared.Station.{Station}
 use Rattle.station.specs.declared.setting.Settled.{Settled}
+
+-- `station_place` of a number: the place of that field.
+abbrev pub StationPlaced : ℕ → Place → Type 0
+StationPlaced k answer = answer ≡ placeOf stationPlaces k
 
 -- `typed_code` on a station: the first rule that it breaks.
 abbrev pub StationJudged : Station → ℕ → Type 0

@@ -1,8 +1,6 @@
 // The places of a station's thirty fields.
 use filing::Place;
-ghost use mathlib.Core.Path.{_≡_};
-ghost use Rattle.filing.specs.Fields.{placeOf};
-ghost use Rattle.station.specs.Places.{stationPlaces};
+ghost use Rattle.station.specs.Promises.{StationPlaced};
 
 // The first column of each field, counted from 1, and its length.
 pub const PLACES: [[usize; 2]; 30] = [
@@ -40,7 +38,7 @@ pub const PLACES: [[usize; 2]; 30] = [
 
 // The place of field number k, counted from 1; column 0 and no length where there is no such field.
 pub fn station_place(k: usize) -> Place
-    ensures { λ r. ⌜ r ≡ placeOf stationPlaces k ⌝ }
+    ensures { λ r. ⌜ StationPlaced k r ⌝ }
 {
     if k == 0 {
         return Place {
