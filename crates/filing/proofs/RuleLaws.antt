@@ -46,7 +46,7 @@ all-back [] ys h = h
 all-back (x ∷ xs) ys h = all-back xs ys (h .1)
 
 -- the first broken of two lists: of the second where none of the first is,
-pub group-on : (k : ℕ) (xs ys : List Bool) → firstBroken (suc k) xs ≡ 0 → firstBroken (suc k) (xs ++ ys) ≡ firstBroken (suc k + length xs) ys
+group-on : (k : ℕ) (xs ys : List Bool) → firstBroken (suc k) xs ≡ 0 → firstBroken (suc k) (xs ++ ys) ≡ firstBroken (suc k + length xs) ys
 unfolding firstBroken
 group-on k [] ys e = rw (add-zero (suc k))
 group-on k (true ∷ xs) ys e =
@@ -55,11 +55,21 @@ group-on k (true ∷ xs) ys e =
 group-on k (false ∷ xs) ys e = absurd (omega arith)
 
 -- and else of the first
-pub group-off : (k : ℕ) (xs ys : List Bool) → (firstBroken (suc k) xs ≡ 0 → ⊥) → firstBroken (suc k) (xs ++ ys) ≡ firstBroken (suc k) xs
+group-off : (k : ℕ) (xs ys : List Bool) → (firstBroken (suc k) xs ≡ 0 → ⊥) → firstBroken (suc k) (xs ++ ys) ≡ firstBroken (suc k) xs
 unfolding firstBroken
 group-off k [] ys n = absurd (n refl)
 group-off k (true ∷ xs) ys n = group-off (suc k) xs ys n
 group-off k (false ∷ xs) ys n = refl
+
+-- so that of two groups, where a is the code of the first,
+module _ (k : ℕ) (xs ys : List Bool) {a : ℕ} (e : a ≡ firstBroken (suc k) xs) where
+  -- the second is asked where that is 0,
+  pub to-next : a ≡ 0 → firstBroken (suc k) (xs ++ ys) ≡ firstBroken (suc k + length xs) ys
+  to-next z = group-on k xs ys (sym e ∙ z)
+
+  -- and else it is the code of both
+  pub from-first : (a ≡ 0 → ⊥) → a ≡ firstBroken (suc k) (xs ++ ys)
+  from-first n = e ∙ sym (group-off k xs ys (λ z. n (e ∙ z)))
 
 -- from rule i on: a rule that holds is passed, one that is broken is given, and past the last there is none
 pub rule-on : (k : ℕ) (rules : List Bool) (i : ℕ) → i < length rules → getD rules i false ≡ true → firstBroken (k + i) (drop i rules) ≡ firstBroken (k + (i + 1)) (drop (i + 1) rules)

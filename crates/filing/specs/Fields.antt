@@ -23,6 +23,11 @@ cut (p ∷ ps) r = piece r p ∷ cut ps r
 abbrev pub at : List (List ℕ) → ℕ → List ℕ
 at f k = getD f (k - 1) []
 
+-- A table as the code keeps it, an array of two-element arrays, says these pairs.
+abbrev pub pairs : List (List ℕ) → List (ℕ × ℕ)
+pairs [] = []
+pairs (p ∷ ps) = (getD p 0 0, getD p 1 0) ∷ pairs ps
+
 -- The place of field number k; column 0 and no length where there is no such field.
 unfoldable pub placeOf : List (ℕ × ℕ) → ℕ → Place
 placeOf ps k =

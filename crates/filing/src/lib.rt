@@ -1,6 +1,7 @@
 // What stations, headers and sheets share: the place of a field, and how a call ends.
 
 pub mod outcomes;
+pub mod places;
 pub mod rules;
 
 // A field's first column, counted from 1, and its length.

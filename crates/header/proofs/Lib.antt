@@ -1,5 +1,3 @@
 pub mod SerialColumn
 pub mod RoundTrip
-pub mod OrderLaws
-pub mod FiledLaws
 pub mod Unique

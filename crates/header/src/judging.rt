@@ -9,6 +9,7 @@ use columns::texts::equal;
 use columns::texts::is_left_text;
 use filing::Outcome;
 use filing::outcomes::judged;
+use filing::rules::first_broken;
 ghost use mathlib.Core.Path.{_≡_};
 ghost use lib.ListN.{length, take, drop};
 ghost use Rattle.filing.specs.Rules.{firstBroken};
@@ -22,28 +23,16 @@ fn sender_code(rec: &[u8]) -> u8
     requires { ⌜ length (now rec) ≡ 219 ⌝ }
     ensures { λ r. ⌜ r ≡ firstBroken 1 (take 7 (headerRules (headerFields (now (rec .entry))))) ⌝ }
 {
-    if !is_whole(&rec[0..2]) {
-        return 1;
-    }
-    if !is_left_text(&rec[2..82], 80, Set::Text) {
-        return 2;
-    }
-    if !is_letter(&rec[82..83]) {
-        return 3;
-    }
-    if !equal(b"AUT", &rec[83..86]) {
-        return 4;
-    }
-    if !is_left_text(&rec[86..126], 40, Set::Mail) {
-        return 5;
-    }
-    if !is_left_text(&rec[126..146], 20, Set::Text) {
-        return 6;
-    }
-    if !is_left_text(&rec[146..166], 20, Set::Text) {
-        return 7;
-    }
-    0
+    let rules = [
+        is_whole(&rec[0..2]),
+        is_left_text(&rec[2..82], 80, Set::Text),
+        is_letter(&rec[82..83]),
+        equal(b"AUT", &rec[83..86]),
+        is_left_text(&rec[86..126], 40, Set::Mail),
+        is_left_text(&rec[126..146], 20, Set::Text),
+        is_left_text(&rec[146..166], 20, Set::Text),
+    ];
+    first_broken(&rules, 1)
 }
 
 // The first broken code of 8 to 14, the person, the count and how the file is filed; 0 means none.
@@ -51,28 +40,16 @@ fn filing_code(rec: &[u8]) -> u8
     requires { ⌜ length (now rec) ≡ 219 ⌝ }
     ensures { λ r. ⌜ r ≡ firstBroken 8 (drop 7 (headerRules (headerFields (now (rec .entry))))) ⌝ }
 {
-    if !is_left_text(&rec[166..186], 20, Set::Text) {
-        return 8;
-    }
-    if !is_whole(&rec[186..192]) {
-        return 9;
-    }
-    if !is_filled(&rec[192..200]) {
-        return 10;
-    }
-    if !equal(b"AUT", &rec[200..203]) {
-        return 11;
-    }
-    if !is_serial(&rec[203..209]) {
-        return 12;
-    }
-    if !equal(b"1.0", &rec[209..212]) {
-        return 13;
-    }
-    if !equal(b"       ", &rec[212..219]) {
-        return 14;
-    }
-    0
+    let rules = [
+        is_left_text(&rec[166..186], 20, Set::Text),
+        is_whole(&rec[186..192]),
+        is_filled(&rec[192..200]),
+        equal(b"AUT", &rec[200..203]),
+        is_serial(&rec[203..209]),
+        equal(b"1.0", &rec[209..212]),
+        equal(b"       ", &rec[212..219]),
+    ];
+    first_broken(&rules, 8)
 }
 
 // The first broken code of a header's record, 1 to 14; 0 means none.

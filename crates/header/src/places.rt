@@ -1,5 +1,6 @@
 // The places of a header's fourteen fields.
 use filing::Place;
+use filing::places::place_in;
 ghost use Rattle.header.specs.Promises.{HeaderPlaced};
 
 // The first column of each field, counted from 1, and its length.
@@ -24,20 +25,5 @@ pub const PLACES: [[usize; 2]; 14] = [
 pub fn header_place(k: usize) -> Place
     ensures { λ r. ⌜ HeaderPlaced k r ⌝ }
 {
-    if k == 0 {
-        return Place {
-            first: 0,
-            length: 0,
-        };
-    }
-    if k > 14 {
-        return Place {
-            first: 0,
-            length: 0,
-        };
-    }
-    let i = k - 1;
-    let first = PLACES[i][0];
-    let length = PLACES[i][1];
-    Place { first, length }
+    place_in(&PLACES, k)
 }

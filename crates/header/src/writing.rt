@@ -14,6 +14,7 @@ use columns::texts::equal;
 use columns::texts::is_left_text;
 use columns::texts::write_blank;
 use filing::Outcome;
+use filing::rules::first_broken;
 ghost use mathlib.Core.Path.{_≡_};
 ghost use mathlib.Core.Bool.{true};
 ghost use mathlib.Core.List.{[], _∷_};
@@ -31,33 +32,21 @@ ghost use Rattle.header.specs.Promises.{HeaderJudged, HeaderWritten};
 fn typed_sender_code(h: Header) -> u8
     ensures { λ r. ⌜ r ≡ firstBroken 1 (take 7 (typedHeaderRules h)) ⌝ }
 {
-    if !fits_whole(2, h.number) {
-        return 1;
-    }
     let content = h.content;
-    if !is_left_text(&content, 80, Set::Text) {
-        return 2;
-    }
-    if !is_o(h.letter) {
-        return 3;
-    }
     let origin = h.origin;
-    if !equal(b"AUT", &origin) {
-        return 4;
-    }
     let mail = h.mail;
-    if !is_left_text(&mail, 40, Set::Mail) {
-        return 5;
-    }
     let telephone = h.telephone;
-    if !is_left_text(&telephone, 20, Set::Text) {
-        return 6;
-    }
     let fax = h.fax;
-    if !is_left_text(&fax, 20, Set::Text) {
-        return 7;
-    }
-    0
+    let rules = [
+        fits_whole(2, h.number),
+        is_left_text(&content, 80, Set::Text),
+        is_o(h.letter),
+        equal(b"AUT", &origin),
+        is_left_text(&mail, 40, Set::Mail),
+        is_left_text(&telephone, 20, Set::Text),
+        is_left_text(&fax, 20, Set::Text),
+    ];
+    first_broken(&rules, 1)
 }
 
 // The first broken code of 8 to 14, the person, the count and how the file is filed; 0 means none.
@@ -65,33 +54,21 @@ fn typed_filing_code(h: Header) -> u8
     ensures { λ r. ⌜ r ≡ firstBroken 8 (drop 7 (typedHeaderRules h)) ⌝ }
 {
     let person = h.person;
-    if !is_left_text(&person, 20, Set::Text) {
-        return 8;
-    }
-    if !fits_whole(6, h.count) {
-        return 9;
-    }
     let date = h.date;
-    if !fits_date(date) {
-        return 10;
-    }
     let destination = h.destination;
-    if !equal(b"AUT", &destination) {
-        return 11;
-    }
     let serial = h.serial;
-    if !fits_serial(serial) {
-        return 12;
-    }
     let version = h.version;
-    if !equal(b"1.0", &version) {
-        return 13;
-    }
     let reserve = h.reserve;
-    if !equal(b"       ", &reserve) {
-        return 14;
-    }
-    0
+    let rules = [
+        is_left_text(&person, 20, Set::Text),
+        fits_whole(6, h.count),
+        fits_date(date),
+        equal(b"AUT", &destination),
+        fits_serial(serial),
+        equal(b"1.0", &version),
+        equal(b"       ", &reserve),
+    ];
+    first_broken(&rules, 8)
 }
 
 // The first broken code of a typed header, 1 to 14; 0 means none.

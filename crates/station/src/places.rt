@@ -1,5 +1,6 @@
 // The places of a station's thirty fields.
 use filing::Place;
+use filing::places::place_in;
 ghost use Rattle.station.specs.Promises.{StationPlaced};
 
 // The first column of each field, counted from 1, and its length.
@@ -40,20 +41,5 @@ pub const PLACES: [[usize; 2]; 30] = [
 pub fn station_place(k: usize) -> Place
     ensures { λ r. ⌜ StationPlaced k r ⌝ }
 {
-    if k == 0 {
-        return Place {
-            first: 0,
-            length: 0,
-        };
-    }
-    if k > 30 {
-        return Place {
-            first: 0,
-            length: 0,
-        };
-    }
-    let i = k - 1;
-    let first = PLACES[i][0];
-    let length = PLACES[i][1];
-    Place { first, length }
+    place_in(&PLACES, k)
 }

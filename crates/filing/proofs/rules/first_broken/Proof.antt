@@ -1,64 +1,46 @@
--- `filing::rules::first_broken` meets its contract: the rules that were passed hold. Assumes nothing.
-use Prim.Native.Nat.{_+_, _-_, _≤_}
-use mathlib.Core.Path.{_≡_, refl, sym, ap, _∙_}
-use native.Mathlib.Nat.{add-zero}
-use lib.ListN.{length, drop}
-use borrow.Author.Tests.{not-true, not-false}
+-- `filing::rules::first_broken` meets its contract: the rules whose number fits a byte are asked. Assumes nothing.
+use Prim.Native.Nat.{_-_, _≤_}
+use mathlib.Core.Path.{_≡_, sym, ap, _∙_}
+use native.Mathlib.Omega.{arith}
+use lib.ListN.{length, take}
+use lib.Seq.{take-all, length-take-le}
+use denote.Ref.{now}
 use Rattle.filing.specs.Rules.{firstBroken}
-use Rattle.filing.proofs.RuleLaws.{rule-on, rule-off, rule-end}
 use borrow.Author.Needs.{needs}
 use Rattle.filing.proofs.rules.first_broken.Statement.{statement}
 use Rattle.filing.proofs.rules.first_broken.Tie as tie
 
-abbrev Inv-loop : tie.InvT-loop
-Inv-loop rules first i₀ i = firstBroken first rules ≡ firstBroken (first + i) (drop i rules)
+sub-room : tie.Need-sub-room
+sub-room c = search needs
 
-abbrev μ-loop : tie.MeasureT-loop
-μ-loop rules first i₀ i = length rules - i
+broken-from-requires : tie.Need-broken-from-requires
+broken-from-requires c κs = search needs
 
-loop-holds : tie.Need-loop-holds Inv-loop μ-loop
-loop-holds c = rw (add-zero)
-
-shared-slice-read-if1 : tie.Need-shared-slice-read-if1 Inv-loop μ-loop
-shared-slice-read-if1 c = search needs
-
-cast-result : tie.Need-cast-result Inv-loop μ-loop
-cast-result c = search needs
-
-add-result : tie.Need-add-result Inv-loop μ-loop
-add-result c = search needs
-
-returns : tie.Need-returns Inv-loop μ-loop
+returns : tie.Need-returns
 returns c =
-    let l = c .before .before .before in
-    sym (l .loop .inv ∙ rule-off _ _ _ (c .before .before .loop-test .taken) (not-true _ (c .if1 .taken)))
+    let a = c .before .before .before .args in
+    c .broken-from .ensures ∙ ap (firstBroken (a .first)) (sym (take-all (256 - a .first) (now (a .rules)) (c .before .if1 .taken)))
 
-add-i : tie.Need-add-i Inv-loop μ-loop
-add-i c = search needs
+-- what is asked of a longer list
+slice-aggregate-broken-from : tie.Need-slice-aggregate-broken-from
+slice-aggregate-broken-from c =
+    let a = c .before .before .before .args in
+    let more : 256 - a .first ≤ length (now (a .rules)) = omega (arith, c .before .if1 .left) in
+    sym (length-take-le (256 - a .first) (now (a .rules)) more)
 
-loop-less : tie.Need-loop-less Inv-loop μ-loop
-loop-less c = search needs
+broken-from-requires-2 : tie.Need-broken-from-requires-2
+broken-from-requires-2 c κs = rw (← slice-aggregate-broken-from c) (omega arith)
 
-loop-again : tie.Need-loop-again Inv-loop μ-loop
-loop-again c =
-    let l = c .before .before .before in
-    l .loop .inv ∙ rule-on _ _ _ (c .before .before .loop-test .taken) (not-false _ (c .if1 .left))
-
-returns-2 : tie.Need-returns-2 Inv-loop μ-loop
-returns-2 c = let l = c .before in sym (l .loop .inv ∙ rule-end _ _ _ (c .loop-test .left))
+returns-2 : tie.Need-returns-2
+returns-2 c = search needs
 
 pub first-broken-spec : {M : Type 1} → statement M
 first-broken-spec =
     tie.close
     (tie.spec
-    Inv-loop
-    μ-loop
-    loop-holds
-    shared-slice-read-if1
-    cast-result
-    add-result
+    sub-room
+    broken-from-requires
     returns
-    add-i
-    loop-less
-    loop-again
+    slice-aggregate-broken-from
+    broken-from-requires-2
     returns-2)

@@ -1,10 +1,11 @@
 -- `header::judging::header_code` meets its contract: the second group is judged where the first breaks no rule. Assumes nothing.
+use mathlib.Core.Path.{sym, _∙_}
 use denote.Ref.{now}
 use lib.ListN.{take, drop}
+use Rattle.filing.proofs.RuleLaws.{to-next, from-first}
 use Rattle.header.specs.Places.{headerFields}
 use Rattle.header.specs.Rules.{headerRules}
 use Rattle.header.specs.Codes.{headerCode}
-use Rattle.header.proofs.OrderLaws.{from-first, from-second}
 use borrow.Author.Needs.{needs}
 use Rattle.header.proofs.judging.header_code.Statement.{statement}
 use Rattle.header.proofs.judging.header_code.Tie as tie
@@ -25,7 +26,7 @@ returns-2 : tie.Need-returns-2
 unfolding headerCode headerRules
 returns-2 c =
     let rules = headerRules (headerFields (now (c .before .before .before .before .args .rec))) in
-    from-second 0 (take 7 rules) (drop 7 rules) (c .before .before .sender-code .ensures) (c .before .if1 .left) (c .filing-code .ensures)
+    c .filing-code .ensures ∙ sym (to-next 0 (take 7 rules) (drop 7 rules) (c .before .before .sender-code .ensures) (c .before .if1 .left))
 
 pub header-code-spec : {M : Type 1} → statement M
 header-code-spec = tie.close (tie.spec sender-code-requires returns filing-code-requires returns-2)

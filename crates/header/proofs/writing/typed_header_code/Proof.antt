@@ -1,8 +1,9 @@
 -- `header::writing::typed_header_code` meets its contract: the second group is judged where the first breaks no rule. Assumes nothing.
+use mathlib.Core.Path.{sym, _∙_}
 use lib.ListN.{take, drop}
+use Rattle.filing.proofs.RuleLaws.{to-next, from-first}
 use Rattle.header.specs.Rules.{typedHeaderRules}
 use Rattle.header.specs.Codes.{typedHeaderCode}
-use Rattle.header.proofs.OrderLaws.{from-first, from-second}
 use borrow.Author.Needs.{needs}
 use Rattle.header.proofs.writing.typed_header_code.Statement.{statement}
 use Rattle.header.proofs.writing.typed_header_code.Tie as tie
@@ -23,8 +24,7 @@ returns-2 : tie.Need-returns-2
 unfolding typedHeaderCode typedHeaderRules
 returns-2 c =
     let rules = typedHeaderRules (c .before .before .before .args .h) in
-    from-second 0 (take 7 rules) (drop 7 rules) (c .before .before .typed-sender-code .ensures) (c .before .if1 .left) (c .typed-filing-code .ensures)
+    c .typed-filing-code .ensures ∙ sym (to-next 0 (take 7 rules) (drop 7 rules) (c .before .before .typed-sender-code .ensures) (c .before .if1 .left))
 
 pub typed-header-code-spec : {M : Type 1} → statement M
-typed-header-code-spec =
-    tie.close (tie.spec typed-sender-code-requires returns typed-filing-code-requires returns-2)
+typed-header-code-spec = tie.close (tie.spec typed-sender-code-requires returns typed-filing-code-requires returns-2)

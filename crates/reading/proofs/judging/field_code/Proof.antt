@@ -3,7 +3,7 @@ use mathlib.Core.Path.{_≡_, sym, _∙_}
 use mathlib.Core.List.{_++_}
 use denote.Ref.{now}
 use Rattle.filing.specs.Rules.{firstBroken}
-use Rattle.filing.proofs.RuleLaws.{group-on, group-off}
+use Rattle.filing.proofs.RuleLaws.{to-next, from-first}
 use Rattle.station.specs.Places.{fieldsOf}
 use Rattle.station.specs.Rules.{channelFields, siteFields, emissionFields, antennaFields, filingFields, fieldRules}
 use borrow.Author.Needs.{needs}
@@ -15,25 +15,25 @@ past-1 : (c : tie.Else1) → let f = fieldsOf (now (c .before .before .before .a
 unfolding channelFields siteFields emissionFields antennaFields filingFields fieldRules
 past-1 c =
     let f = fieldsOf (now (c .before .before .before .args .rec)) in
-    group-on 0 (channelFields f) (siteFields f ++ (emissionFields f ++ (antennaFields f ++ (filingFields f)))) (sym (c .before .channel-code .ensures) ∙ c .if1 .left)
+    to-next 0 (channelFields f) (siteFields f ++ (emissionFields f ++ (antennaFields f ++ (filingFields f)))) (c .before .channel-code .ensures) (c .if1 .left)
 
 past-2 : (c : tie.Else2) → let f = fieldsOf (now (c .before .before .before .before .before .args .rec)) in firstBroken 1 (fieldRules f) ≡ firstBroken 14 (emissionFields f ++ (antennaFields f ++ (filingFields f)))
 unfolding channelFields siteFields emissionFields antennaFields filingFields fieldRules
 past-2 c =
     let f = fieldsOf (now (c .before .before .before .before .before .args .rec)) in
-    past-1 (c .before .before) ∙ group-on 7 (siteFields f) (emissionFields f ++ (antennaFields f ++ (filingFields f))) (sym (c .before .site-code .ensures) ∙ c .if2 .left)
+    past-1 (c .before .before) ∙ to-next 7 (siteFields f) (emissionFields f ++ (antennaFields f ++ (filingFields f))) (c .before .site-code .ensures) (c .if2 .left)
 
 past-3 : (c : tie.Else3) → let f = fieldsOf (now (c .before .before .before .before .before .before .before .args .rec)) in firstBroken 1 (fieldRules f) ≡ firstBroken 19 (antennaFields f ++ (filingFields f))
 unfolding channelFields siteFields emissionFields antennaFields filingFields fieldRules
 past-3 c =
     let f = fieldsOf (now (c .before .before .before .before .before .before .before .args .rec)) in
-    past-2 (c .before .before) ∙ group-on 13 (emissionFields f) (antennaFields f ++ (filingFields f)) (sym (c .before .emission-code .ensures) ∙ c .if3 .left)
+    past-2 (c .before .before) ∙ to-next 13 (emissionFields f) (antennaFields f ++ (filingFields f)) (c .before .emission-code .ensures) (c .if3 .left)
 
 past-4 : (c : tie.Else4) → let f = fieldsOf (now (c .before .before .before .before .before .before .before .before .before .args .rec)) in firstBroken 1 (fieldRules f) ≡ firstBroken 24 (filingFields f)
 unfolding channelFields siteFields emissionFields antennaFields filingFields fieldRules
 past-4 c =
     let f = fieldsOf (now (c .before .before .before .before .before .before .before .before .before .args .rec)) in
-    past-3 (c .before .before) ∙ group-on 18 (antennaFields f) (filingFields f) (sym (c .before .antenna-code .ensures) ∙ c .if4 .left)
+    past-3 (c .before .before) ∙ to-next 18 (antennaFields f) (filingFields f) (c .before .antenna-code .ensures) (c .if4 .left)
 
 channel-code-requires : tie.Need-channel-code-requires
 channel-code-requires c κs = search needs
@@ -42,7 +42,7 @@ returns : tie.Need-returns
 unfolding channelFields siteFields emissionFields antennaFields filingFields fieldRules
 returns c =
     let f = fieldsOf (now (c .before .before .before .args .rec)) in
-    c .before .channel-code .ensures ∙ sym (group-off 0 (channelFields f) (siteFields f ++ (emissionFields f ++ (antennaFields f ++ (filingFields f)))) (λ e. c .if1 .taken (c .before .channel-code .ensures ∙ e)))
+    from-first 0 (channelFields f) (siteFields f ++ (emissionFields f ++ (antennaFields f ++ (filingFields f)))) (c .before .channel-code .ensures) (c .if1 .taken)
 
 site-code-requires : tie.Need-site-code-requires
 site-code-requires c κs = search needs
@@ -51,7 +51,7 @@ returns-2 : tie.Need-returns-2
 unfolding channelFields siteFields emissionFields antennaFields filingFields fieldRules
 returns-2 c =
     let f = fieldsOf (now (c .before .before .before .before .before .args .rec)) in
-    c .before .site-code .ensures ∙ sym (past-1 (c .before .before) ∙ group-off 7 (siteFields f) (emissionFields f ++ (antennaFields f ++ (filingFields f))) (λ e. c .if2 .taken (c .before .site-code .ensures ∙ e)))
+    from-first 7 (siteFields f) (emissionFields f ++ (antennaFields f ++ (filingFields f))) (c .before .site-code .ensures) (c .if2 .taken) ∙ sym (past-1 (c .before .before))
 
 emission-code-requires : tie.Need-emission-code-requires
 emission-code-requires c κs = search needs
@@ -60,7 +60,7 @@ returns-3 : tie.Need-returns-3
 unfolding channelFields siteFields emissionFields antennaFields filingFields fieldRules
 returns-3 c =
     let f = fieldsOf (now (c .before .before .before .before .before .before .before .args .rec)) in
-    c .before .emission-code .ensures ∙ sym (past-2 (c .before .before) ∙ group-off 13 (emissionFields f) (antennaFields f ++ (filingFields f)) (λ e. c .if3 .taken (c .before .emission-code .ensures ∙ e)))
+    from-first 13 (emissionFields f) (antennaFields f ++ (filingFields f)) (c .before .emission-code .ensures) (c .if3 .taken) ∙ sym (past-2 (c .before .before))
 
 antenna-code-requires : tie.Need-antenna-code-requires
 antenna-code-requires c κs = search needs
@@ -69,7 +69,7 @@ returns-4 : tie.Need-returns-4
 unfolding channelFields siteFields emissionFields antennaFields filingFields fieldRules
 returns-4 c =
     let f = fieldsOf (now (c .before .before .before .before .before .before .before .before .before .args .rec)) in
-    c .before .antenna-code .ensures ∙ sym (past-3 (c .before .before) ∙ group-off 18 (antennaFields f) (filingFields f) (λ e. c .if4 .taken (c .before .antenna-code .ensures ∙ e)))
+    from-first 18 (antennaFields f) (filingFields f) (c .before .antenna-code .ensures) (c .if4 .taken) ∙ sym (past-3 (c .before .before))
 
 filing-code-requires : tie.Need-filing-code-requires
 filing-code-requires c κs = search needs

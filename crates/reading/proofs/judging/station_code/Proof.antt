@@ -3,7 +3,7 @@ use mathlib.Core.Path.{_≡_, sym, _∙_}
 use mathlib.Core.List.{_++_}
 use denote.Ref.{now}
 use Rattle.filing.specs.Rules.{All, firstBroken}
-use Rattle.filing.proofs.RuleLaws.{all-hold, group-on, group-off}
+use Rattle.filing.proofs.RuleLaws.{all-hold, to-next, from-first}
 use Rattle.station.specs.Places.{fieldsOf}
 use Rattle.station.specs.Rules.{channelFields, siteFields, emissionFields, antennaFields, filingFields, fieldRules}
 use Rattle.station.specs.Between.{firstBetween, lastBetween, betweenRules}
@@ -21,13 +21,13 @@ past-1 : (c : tie.Else1) → let r = now (c .before .before .before .args .rec) 
 unfolding stationCode betweenRules firstBetween lastBetween fieldRules channelFields siteFields emissionFields antennaFields filingFields
 past-1 c =
     let r = now (c .before .before .before .args .rec) in
-    group-on 0 (fieldRules (fieldsOf r)) (betweenRules (valueOf r)) (sym (c .before .field-code .ensures) ∙ c .if1 .left)
+    to-next 0 (fieldRules (fieldsOf r)) (betweenRules (valueOf r)) (c .before .field-code .ensures) (c .if1 .left)
 
 past-2 : (c : tie.Else2) → let r = now (c .before .before .before .before .before .args .rec) in stationCode r ≡ firstBroken 35 (lastBetween (valueOf r))
 unfolding stationCode betweenRules firstBetween lastBetween fieldRules channelFields siteFields emissionFields antennaFields filingFields
 past-2 c =
     let r = now (c .before .before .before .before .before .args .rec) in
-    past-1 (c .before .before) ∙ group-on 30 (firstBetween (valueOf r)) (lastBetween (valueOf r)) (sym (c .before .first-between .ensures) ∙ c .if2 .left)
+    past-1 (c .before .before) ∙ to-next 30 (firstBetween (valueOf r)) (lastBetween (valueOf r)) (c .before .first-between .ensures) (c .if2 .left)
 
 field-code-requires : tie.Need-field-code-requires
 field-code-requires c κs = search needs
@@ -36,7 +36,7 @@ returns : tie.Need-returns
 unfolding stationCode
 returns c =
     let r = now (c .before .before .before .args .rec) in
-    c .before .field-code .ensures ∙ sym (group-off 0 (fieldRules (fieldsOf r)) (betweenRules (valueOf r)) (λ e. c .if1 .taken (c .before .field-code .ensures ∙ e)))
+    from-first 0 (fieldRules (fieldsOf r)) (betweenRules (valueOf r)) (c .before .field-code .ensures) (c .if1 .taken)
 
 first-between-requires : tie.Need-first-between-requires
 first-between-requires c κs = (c .before .before .before .pre, hold c)
@@ -44,7 +44,7 @@ first-between-requires c κs = (c .before .before .before .pre, hold c)
 returns-2 : tie.Need-returns-2
 returns-2 c =
     let v = valueOf (now (c .before .before .before .before .before .args .rec)) in
-    c .before .first-between .ensures ∙ sym (past-1 (c .before .before) ∙ group-off 30 (firstBetween v) (lastBetween v) (λ e. c .if2 .taken (c .before .first-between .ensures ∙ e)))
+    from-first 30 (firstBetween v) (lastBetween v) (c .before .first-between .ensures) (c .if2 .taken) ∙ sym (past-1 (c .before .before))
 
 last-between-requires : tie.Need-last-between-requires
 last-between-requires c κs = (c .before .before .before .before .before .pre, hold (c .before .before))

@@ -2,7 +2,7 @@
 use mathlib.Core.Path.{_≡_, sym, _∙_}
 use mathlib.Core.List.{_++_}
 use Rattle.filing.specs.Rules.{firstBroken}
-use Rattle.filing.proofs.RuleLaws.{group-on, group-off}
+use Rattle.filing.proofs.RuleLaws.{to-next, from-first}
 use Rattle.station.specs.Rules.{channelRules, siteRules, emissionRules, antennaRules, filingRules, typedRules}
 use Rattle.station.specs.Between.{firstBetween, lastBetween, betweenRules}
 use Rattle.station.specs.Codes.{typedCode}
@@ -15,13 +15,13 @@ past-1 : (c : tie.Else1) → let s = c .before .before .args .s in typedCode s �
 unfolding typedCode betweenRules firstBetween lastBetween typedRules channelRules siteRules emissionRules antennaRules filingRules
 past-1 c =
     let s = c .before .before .args .s in
-    group-on 0 (typedRules s) (betweenRules s) (sym (c .before .typed-field-code .ensures) ∙ c .if1 .left)
+    to-next 0 (typedRules s) (betweenRules s) (c .before .typed-field-code .ensures) (c .if1 .left)
 
 past-2 : (c : tie.Else2) → let s = c .before .before .before .before .args .s in typedCode s ≡ firstBroken 35 (lastBetween s)
 unfolding typedCode betweenRules firstBetween lastBetween typedRules channelRules siteRules emissionRules antennaRules filingRules
 past-2 c =
     let s = c .before .before .before .before .args .s in
-    past-1 (c .before .before) ∙ group-on 30 (firstBetween s) (lastBetween s) (sym (c .before .typed-first-between .ensures) ∙ c .if2 .left)
+    past-1 (c .before .before) ∙ to-next 30 (firstBetween s) (lastBetween s) (c .before .typed-first-between .ensures) (c .if2 .left)
 
 typed-field-code-requires : tie.Need-typed-field-code-requires
 typed-field-code-requires c κs = search needs
@@ -30,7 +30,7 @@ returns : tie.Need-returns
 unfolding typedCode
 returns c =
     let s = c .before .before .args .s in
-    c .before .typed-field-code .ensures ∙ sym (group-off 0 (typedRules s) (betweenRules s) (λ e. c .if1 .taken (c .before .typed-field-code .ensures ∙ e)))
+    from-first 0 (typedRules s) (betweenRules s) (c .before .typed-field-code .ensures) (c .if1 .taken)
 
 typed-first-between-requires : tie.Need-typed-first-between-requires
 typed-first-between-requires c κs = search needs
@@ -38,7 +38,7 @@ typed-first-between-requires c κs = search needs
 returns-2 : tie.Need-returns-2
 returns-2 c =
     let s = c .before .before .before .before .args .s in
-    c .before .typed-first-between .ensures ∙ sym (past-1 (c .before .before) ∙ group-off 30 (firstBetween s) (lastBetween s) (λ e. c .if2 .taken (c .before .typed-first-between .ensures ∙ e)))
+    from-first 30 (firstBetween s) (lastBetween s) (c .before .typed-first-between .ensures) (c .if2 .taken) ∙ sym (past-1 (c .before .before))
 
 typed-last-between-requires : tie.Need-typed-last-between-requires
 typed-last-between-requires c κs = search needs

@@ -2,7 +2,7 @@
 use mathlib.Core.Path.{_≡_, sym, _∙_}
 use mathlib.Core.List.{_++_}
 use Rattle.filing.specs.Rules.{firstBroken}
-use Rattle.filing.proofs.RuleLaws.{group-on, group-off}
+use Rattle.filing.proofs.RuleLaws.{to-next, from-first}
 use Rattle.station.specs.Rules.{channelRules, siteRules, emissionRules, antennaRules, filingRules, typedRules}
 use borrow.Author.Needs.{needs}
 use Rattle.station.proofs.typed.typed_field_code.Statement.{statement}
@@ -13,25 +13,25 @@ past-1 : (c : tie.Else1) → let s = c .before .before .args .s in firstBroken 1
 unfolding channelRules siteRules emissionRules antennaRules filingRules typedRules
 past-1 c =
     let s = c .before .before .args .s in
-    group-on 0 (channelRules (s .channel)) (siteRules (s .site) ++ (emissionRules (s .emission) ++ (antennaRules (s .antenna) ++ (filingRules (s .filing))))) (sym (c .before .typed-channel-code .ensures) ∙ c .if1 .left)
+    to-next 0 (channelRules (s .channel)) (siteRules (s .site) ++ (emissionRules (s .emission) ++ (antennaRules (s .antenna) ++ (filingRules (s .filing))))) (c .before .typed-channel-code .ensures) (c .if1 .left)
 
 past-2 : (c : tie.Else2) → let s = c .before .before .before .before .args .s in firstBroken 1 (typedRules s) ≡ firstBroken 14 (emissionRules (s .emission) ++ (antennaRules (s .antenna) ++ (filingRules (s .filing))))
 unfolding channelRules siteRules emissionRules antennaRules filingRules typedRules
 past-2 c =
     let s = c .before .before .before .before .args .s in
-    past-1 (c .before .before) ∙ group-on 7 (siteRules (s .site)) (emissionRules (s .emission) ++ (antennaRules (s .antenna) ++ (filingRules (s .filing)))) (sym (c .before .typed-site-code .ensures) ∙ c .if2 .left)
+    past-1 (c .before .before) ∙ to-next 7 (siteRules (s .site)) (emissionRules (s .emission) ++ (antennaRules (s .antenna) ++ (filingRules (s .filing)))) (c .before .typed-site-code .ensures) (c .if2 .left)
 
 past-3 : (c : tie.Else3) → let s = c .before .before .before .before .before .before .args .s in firstBroken 1 (typedRules s) ≡ firstBroken 19 (antennaRules (s .antenna) ++ (filingRules (s .filing)))
 unfolding channelRules siteRules emissionRules antennaRules filingRules typedRules
 past-3 c =
     let s = c .before .before .before .before .before .before .args .s in
-    past-2 (c .before .before) ∙ group-on 13 (emissionRules (s .emission)) (antennaRules (s .antenna) ++ (filingRules (s .filing))) (sym (c .before .typed-emission-code .ensures) ∙ c .if3 .left)
+    past-2 (c .before .before) ∙ to-next 13 (emissionRules (s .emission)) (antennaRules (s .antenna) ++ (filingRules (s .filing))) (c .before .typed-emission-code .ensures) (c .if3 .left)
 
 past-4 : (c : tie.Else4) → let s = c .before .before .before .before .before .before .before .before .args .s in firstBroken 1 (typedRules s) ≡ firstBroken 24 (filingRules (s .filing))
 unfolding channelRules siteRules emissionRules antennaRules filingRules typedRules
 past-4 c =
     let s = c .before .before .before .before .before .before .before .before .args .s in
-    past-3 (c .before .before) ∙ group-on 18 (antennaRules (s .antenna)) (filingRules (s .filing)) (sym (c .before .typed-antenna-code .ensures) ∙ c .if4 .left)
+    past-3 (c .before .before) ∙ to-next 18 (antennaRules (s .antenna)) (filingRules (s .filing)) (c .before .typed-antenna-code .ensures) (c .if4 .left)
 
 typed-channel-code-requires : tie.Need-typed-channel-code-requires
 typed-channel-code-requires c κs = search needs
@@ -40,7 +40,7 @@ returns : tie.Need-returns
 unfolding channelRules siteRules emissionRules antennaRules filingRules typedRules
 returns c =
     let s = c .before .before .args .s in
-    c .before .typed-channel-code .ensures ∙ sym (group-off 0 (channelRules (s .channel)) (siteRules (s .site) ++ (emissionRules (s .emission) ++ (antennaRules (s .antenna) ++ (filingRules (s .filing))))) (λ e. c .if1 .taken (c .before .typed-channel-code .ensures ∙ e)))
+    from-first 0 (channelRules (s .channel)) (siteRules (s .site) ++ (emissionRules (s .emission) ++ (antennaRules (s .antenna) ++ (filingRules (s .filing))))) (c .before .typed-channel-code .ensures) (c .if1 .taken)
 
 typed-site-code-requires : tie.Need-typed-site-code-requires
 typed-site-code-requires c κs = search needs
@@ -49,7 +49,7 @@ returns-2 : tie.Need-returns-2
 unfolding channelRules siteRules emissionRules antennaRules filingRules typedRules
 returns-2 c =
     let s = c .before .before .before .before .args .s in
-    c .before .typed-site-code .ensures ∙ sym (past-1 (c .before .before) ∙ group-off 7 (siteRules (s .site)) (emissionRules (s .emission) ++ (antennaRules (s .antenna) ++ (filingRules (s .filing)))) (λ e. c .if2 .taken (c .before .typed-site-code .ensures ∙ e)))
+    from-first 7 (siteRules (s .site)) (emissionRules (s .emission) ++ (antennaRules (s .antenna) ++ (filingRules (s .filing)))) (c .before .typed-site-code .ensures) (c .if2 .taken) ∙ sym (past-1 (c .before .before))
 
 typed-emission-code-requires : tie.Need-typed-emission-code-requires
 typed-emission-code-requires c κs = search needs
@@ -58,7 +58,7 @@ returns-3 : tie.Need-returns-3
 unfolding channelRules siteRules emissionRules antennaRules filingRules typedRules
 returns-3 c =
     let s = c .before .before .before .before .before .before .args .s in
-    c .before .typed-emission-code .ensures ∙ sym (past-2 (c .before .before) ∙ group-off 13 (emissionRules (s .emission)) (antennaRules (s .antenna) ++ (filingRules (s .filing))) (λ e. c .if3 .taken (c .before .typed-emission-code .ensures ∙ e)))
+    from-first 13 (emissionRules (s .emission)) (antennaRules (s .antenna) ++ (filingRules (s .filing))) (c .before .typed-emission-code .ensures) (c .if3 .taken) ∙ sym (past-2 (c .before .before))
 
 typed-antenna-code-requires : tie.Need-typed-antenna-code-requires
 typed-antenna-code-requires c κs = search needs
@@ -67,7 +67,7 @@ returns-4 : tie.Need-returns-4
 unfolding channelRules siteRules emissionRules antennaRules filingRules typedRules
 returns-4 c =
     let s = c .before .before .before .before .before .before .before .before .args .s in
-    c .before .typed-antenna-code .ensures ∙ sym (past-3 (c .before .before) ∙ group-off 18 (antennaRules (s .antenna)) (filingRules (s .filing)) (λ e. c .if4 .taken (c .before .typed-antenna-code .ensures ∙ e)))
+    from-first 18 (antennaRules (s .antenna)) (filingRules (s .filing)) (c .before .typed-antenna-code .ensures) (c .if4 .taken) ∙ sym (past-3 (c .before .before))
 
 typed-filing-code-requires : tie.Need-typed-filing-code-requires
 typed-filing-code-requires c κs = search needs
