@@ -11,9 +11,16 @@ use native.Mathlib.Numerals.{add-one, sub-one}
 use lib.Arith.{lt-of-le-ne}
 use lib.Dec.{leb, eqb, eqb·suc-suc}
 use lib.ListN.{length, getD, take, drop, replicate, length-drop, drop-of-length-le, List·getD-eq-default}
-use lib.Seq.{drop-cons, getD-drop, drop-drop, take-all, take-suc}
+use lib.Seq.{drop-cons, getD-drop, drop-drop, take-all, take-suc, length-take-le}
 use borrow.Author.Tests.{eq-eqb, ne-eqb}
-use Rattle.columns.specs.Texts.{head, tail, ended, skip, blank, trimmed, every, each, same}
+use Rattle.columns.specs.Texts.{head, tail, ended, skip, blank, trimmed, every, each, same, textIn}
+
+-- the text of columns that are there is their bytes
+pub text-there : (w a : ℕ) (r : List ℕ) → a + w ≤ length r → textIn w (take w (drop a r)) ≡ take w (drop a r)
+unfolding textIn
+text-there w a r h =
+    let room : w ≤ length (drop a r) = simp length-drop (omega arith) in
+    rw (eq-eqb (length (take w (drop a r))) w (length-take-le w (drop a r) room))
 
 -- both tests passed
 pub and-split : (a b : Bool) → (a && b) ≡ true → (a ≡ true) × (b ≡ true)

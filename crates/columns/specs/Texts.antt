@@ -5,7 +5,7 @@ use Prim.Native.String.{String}
 use Prim.Native.String as text
 use mathlib.Core.Bool.{Bool, true, false, cond, not, _&&_, _||_}
 use mathlib.Core.List.{List, [], _∷_}
-use lib.ListN.{length, getD, drop}
+use lib.ListN.{length, getD, drop, replicate}
 use lib.Dec.{eqb}
 use Rattle.columns.specs.Sets.{is}
 
@@ -86,6 +86,10 @@ endsIn x p = same (bytes x) (drop (length p - length (bytes x)) p)
 -- The text has w bytes.
 abbrev pub sized : ℕ → List ℕ → Bool
 sized w p = eqb (length p) w
+
+-- A text as it is kept in w bytes: its own, and spaces where it has another length.
+unfoldable pub textIn : ℕ → List ℕ → List ℕ
+textIn w p = cond (sized w p) p (replicate w 32)
 
 -- Text of w bytes of a set, left-justified: the first byte is a space only if all are.
 unfoldable pub textGood : ℕ → (ℕ → Bool) → List ℕ → Bool

@@ -1,6 +1,7 @@
 // One column at a time: byte sets, blank, whole numbers, decimals, text and dates.
 pub mod dates;
 pub mod decimals;
+pub mod keeping;
 pub mod numbers;
 pub mod sets;
 pub mod texts;

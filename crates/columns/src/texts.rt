@@ -3,6 +3,7 @@ use crate::sets::Set;
 use crate::sets::has;
 ghost use mathlib.Core.Path.{_≡_};
 ghost use mathlib.Core.Bool.{cond};
+ghost use mathlib.Core.List.{[], _∷_};
 ghost use Prim.Native.Nat.{_≤_};
 ghost use lib.ListN.{length, getD, take, drop, replicate};
 ghost use Rattle.columns.specs.Sets.{setOf};
@@ -104,6 +105,18 @@ pub fn write_text(s: &mut [u8], t: &[u8]) -> bool
         return false;
     }
     bytes::copy(t, s);
+    true
+}
+
+// One byte in its one column; in others nothing is written.
+pub fn write_byte(s: &mut [u8], b: u8) -> bool
+    ensures { λ r. ⌜ r ≡ sized 1 (now (s .entry)) ⌝ }
+    ensures { λ _. ⌜ now (s .exit) ≡ cond (sized 1 (now (s .entry))) (b ∷ []) (now (s .entry)) ⌝ }
+{
+    if s.len() != 1 {
+        return false;
+    }
+    s[0] = b;
     true
 }
 

@@ -2,11 +2,14 @@
 -- Assumes nothing.
 use mathlib.Core.Path.{_≡_, refl, sym, ap, _∙_}
 use mathlib.Core.List.{List, [], _∷_, _++_, append-assoc, append-nil}
+use mathlib.Core.Bool.{Bool, true, cond, _&&_}
 use Prim.Native.Nat.{ℕ, _+_, _≤_}
 use native.Mathlib.Omega.{arith}
+use lib.Dec.{eqb}
 use lib.ListN.{length, take, drop, length-append, length-drop}
 use lib.Seq.{take-at, drop-at, drop-drop, length-take-le, drop-length}
 use borrow.Rule.Slice.PartMut.{putMid}
+use borrow.Author.Tests.{eq-eqb}
 use Rattle.filing.specs.Fields.{joined}
 
 -- pieces of two lists, joined
@@ -48,6 +51,14 @@ module _ {s now : List ℕ} {pieces : List (List ℕ)} {a : ℕ} (w : Written s 
   -- or one piece,
   pub then-one : (q : List ℕ) {p : List ℕ} → p ≡ q → length p ≡ length (take n (drop a now)) → Written s (pieces ++ (q ∷ [])) (a + n) (putMid a n now p)
   then-one q e kept = then-some (q ∷ []) (e ∙ sym (append-nil q)) kept
+
+  -- or one that is written only where it keeps its rule,
+  pub then-fitting : (q : List ℕ) {p : List ℕ} {fits : Bool} → p ≡ cond (eqb (length (take n (drop a now))) n && fits) q (take n (drop a now)) → fits ≡ true → length p ≡ length (take n (drop a now)) → Written s (pieces ++ (q ∷ [])) (a + n) (putMid a n now p)
+  then-fitting q e f kept = then-one q (e ∙ rw (eq-eqb (length (take n (drop a now))) n part-wide, f)) kept
+
+  -- or a text, which is written only in as many columns as it has bytes,
+  pub then-text : (q : List ℕ) {p : List ℕ} → p ≡ cond (eqb (length (take n (drop a now))) (length q)) q (take n (drop a now)) → length q ≡ n → length p ≡ length (take n (drop a now)) → Written s (pieces ++ (q ∷ [])) (a + n) (putMid a n now p)
+  then-text q e l kept = then-one q (e ∙ rw (eq-eqb (length (take n (drop a now))) (length q) (part-wide ∙ sym l))) kept
 
   -- or one whose spelling goes by the columns that it has
   pub then-sized : (q : ℕ → List ℕ) {p : List ℕ} → p ≡ q (length (take n (drop a now))) → length p ≡ length (take n (drop a now)) → Written s (pieces ++ (q n ∷ [])) (a + n) (putMid a n now p)

@@ -6,6 +6,11 @@ use crate::values::amount_in;
 use crate::values::serial_in;
 use columns::dates::Day;
 use columns::dates::day_in;
+use columns::keeping::text3;
+use columns::keeping::text7;
+use columns::keeping::text20;
+use columns::keeping::text40;
+use columns::keeping::text80;
 use columns::texts::byte;
 use filing::Outcome;
 use filing::outcomes::is_done;
@@ -18,64 +23,6 @@ ghost use Rattle.header.specs.Promises.{HeaderRead, HeaderEmpty};
 pub struct ReadHeader {
     pub outcome: Outcome,
     pub header: Header,
-}
-
-// Puts a text into columns of its own width.
-pub(crate) fn put_text(s: &mut [u8], t: &[u8])
-    requires { ⌜ length (now s) ≡ length (now t) ⌝ }
-    ensures { λ _. ⌜ now (s .exit) ≡ now (t .entry) ⌝ }
-{
-    bytes::copy(t, s);
-}
-
-// The text of three columns.
-fn text3(s: &[u8]) -> [u8; 3]
-    requires { ⌜ length (now s) ≡ 3 ⌝ }
-    ensures { λ r. ⌜ r ≡ now (s .entry) ⌝ }
-{
-    let mut a = [0u8; 3];
-    put_text(&mut a, s);
-    a
-}
-
-// The text of seven columns.
-fn text7(s: &[u8]) -> [u8; 7]
-    requires { ⌜ length (now s) ≡ 7 ⌝ }
-    ensures { λ r. ⌜ r ≡ now (s .entry) ⌝ }
-{
-    let mut a = [0u8; 7];
-    put_text(&mut a, s);
-    a
-}
-
-// The text of twenty columns.
-fn text20(s: &[u8]) -> [u8; 20]
-    requires { ⌜ length (now s) ≡ 20 ⌝ }
-    ensures { λ r. ⌜ r ≡ now (s .entry) ⌝ }
-{
-    let mut a = [0u8; 20];
-    put_text(&mut a, s);
-    a
-}
-
-// The text of forty columns.
-fn text40(s: &[u8]) -> [u8; 40]
-    requires { ⌜ length (now s) ≡ 40 ⌝ }
-    ensures { λ r. ⌜ r ≡ now (s .entry) ⌝ }
-{
-    let mut a = [0u8; 40];
-    put_text(&mut a, s);
-    a
-}
-
-// The text of eighty columns.
-fn text80(s: &[u8]) -> [u8; 80]
-    requires { ⌜ length (now s) ≡ 80 ⌝ }
-    ensures { λ r. ⌜ r ≡ now (s .entry) ⌝ }
-{
-    let mut a = [0u8; 80];
-    put_text(&mut a, s);
-    a
 }
 
 // The header that a record says.

@@ -1,11 +1,9 @@
 // A header written into a lent buffer, each field straight into its own columns.
 use crate::Header;
 use crate::Serial;
-use crate::reading::put_text;
 use crate::values::fits_date;
 use crate::values::fits_serial;
 use crate::values::is_o;
-use columns::dates::Day;
 use columns::dates::write_day;
 use columns::numbers::fits_whole;
 use columns::numbers::put_whole;
@@ -13,13 +11,14 @@ use columns::sets::Set;
 use columns::texts::equal;
 use columns::texts::is_left_text;
 use columns::texts::write_blank;
+use columns::texts::write_byte;
+use columns::texts::write_text;
 use filing::Outcome;
 use filing::rules::first_broken;
 ghost use mathlib.Core.Path.{_≡_};
 ghost use mathlib.Core.Bool.{true};
-ghost use mathlib.Core.List.{[], _∷_};
 ghost use lib.ListN.{length, take, drop};
-ghost use Rattle.columns.specs.Dates.{dateFits, spellDay};
+ghost use Rattle.columns.specs.Dates.{dateFits};
 ghost use Rattle.filing.specs.Fields.{joined};
 ghost use Rattle.filing.specs.Rules.{firstBroken};
 ghost use Rattle.header.specs.Rules.{typedHeaderRules};
@@ -82,22 +81,6 @@ pub fn typed_header_code(h: Header) -> u8
     typed_filing_code(h)
 }
 
-// Field 3, in its one column.
-fn put_byte(s: &mut [u8], b: u8)
-    requires { ⌜ length (now s) ≡ 1 ⌝ }
-    ensures { λ _. ⌜ now (s .exit) ≡ b ∷ [] ⌝ }
-{
-    s[0] = b;
-}
-
-// Field 10, a date that keeps its rule.
-fn put_day(s: &mut [u8], v: Day)
-    requires { ⌜ (length (now s) ≡ 8) × (dateFits v ≡ true) ⌝ }
-    ensures { λ _. ⌜ now (s .exit) ≡ spellDay v ⌝ }
-{
-    write_day(s, v);
-}
-
 // Field 12, a number or blank.
 fn put_serial(s: &mut [u8], v: Serial)
     requires { ⌜ length (now s) ≡ 6 ⌝ }
@@ -116,10 +99,10 @@ fn put_file(h: Header, s: &mut [u8])
 {
     put_whole(&mut s[0..2], h.number);
     let content = h.content;
-    put_text(&mut s[2..82], &content);
-    put_byte(&mut s[82..83], h.letter);
+    write_text(&mut s[2..82], &content);
+    write_byte(&mut s[82..83], h.letter);
     let origin = h.origin;
-    put_text(&mut s[83..86], &origin);
+    write_text(&mut s[83..86], &origin);
 }
 
 // Fields 5 to 8, columns 87 to 186: who sent it.
@@ -128,13 +111,13 @@ fn put_sender(h: Header, s: &mut [u8])
     ensures { λ _. ⌜ now (s .exit) ≡ joined (take 4 (drop 4 (headerPieces h))) ⌝ }
 {
     let mail = h.mail;
-    put_text(&mut s[0..40], &mail);
+    write_text(&mut s[0..40], &mail);
     let telephone = h.telephone;
-    put_text(&mut s[40..60], &telephone);
+    write_text(&mut s[40..60], &telephone);
     let fax = h.fax;
-    put_text(&mut s[60..80], &fax);
+    write_text(&mut s[60..80], &fax);
     let person = h.person;
-    put_text(&mut s[80..100], &person);
+    write_text(&mut s[80..100], &person);
 }
 
 // Fields 9 to 11, columns 187 to 203: the count, the date and where it goes.
@@ -144,9 +127,9 @@ fn put_sending(h: Header, s: &mut [u8])
 {
     put_whole(&mut s[0..6], h.count);
     let date = h.date;
-    put_day(&mut s[6..14], date);
+    write_day(&mut s[6..14], date);
     let destination = h.destination;
-    put_text(&mut s[14..17], &destination);
+    write_text(&mut s[14..17], &destination);
 }
 
 // Fields 12 to 14, columns 204 to 219: the file number, the version and the reserve.
@@ -157,9 +140,9 @@ fn put_end(h: Header, s: &mut [u8])
     let serial = h.serial;
     put_serial(&mut s[0..6], serial);
     let version = h.version;
-    put_text(&mut s[6..9], &version);
+    write_text(&mut s[6..9], &version);
     let reserve = h.reserve;
-    put_text(&mut s[9..16], &reserve);
+    write_text(&mut s[9..16], &reserve);
 }
 
 // Writes a header that breaks no rule.

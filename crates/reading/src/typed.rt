@@ -3,6 +3,13 @@ use crate::judging::check_station;
 use columns::dates::Day;
 use columns::dates::day_in;
 use columns::decimals::Format;
+use columns::keeping::text2;
+use columns::keeping::text3;
+use columns::keeping::text7;
+use columns::keeping::text9;
+use columns::keeping::text15;
+use columns::keeping::text20;
+use columns::keeping::text50;
 use fields::distances::Height;
 use fields::distances::Kilometres;
 use fields::distances::Metres;
@@ -49,84 +56,6 @@ fn position_in(s: &[u8]) -> Position
         Located::Bad => Position { east: 0, north: 0 },
         Located::Filled(p) => p,
     }
-}
-
-// Puts a text into columns of its own width.
-fn put_text(s: &mut [u8], t: &[u8])
-    requires { ⌜ length (now s) ≡ length (now t) ⌝ }
-    ensures { λ _. ⌜ now (s .exit) ≡ now (t .entry) ⌝ }
-{
-    bytes::copy(t, s);
-}
-
-// The text of two columns.
-fn text2(s: &[u8]) -> [u8; 2]
-    requires { ⌜ length (now s) ≡ 2 ⌝ }
-    ensures { λ r. ⌜ r ≡ now (s .entry) ⌝ }
-{
-    let mut a = [0u8; 2];
-    put_text(&mut a, s);
-    a
-}
-
-// The text of three columns.
-fn text3(s: &[u8]) -> [u8; 3]
-    requires { ⌜ length (now s) ≡ 3 ⌝ }
-    ensures { λ r. ⌜ r ≡ now (s .entry) ⌝ }
-{
-    let mut a = [0u8; 3];
-    put_text(&mut a, s);
-    a
-}
-
-// The text of seven columns.
-fn text7(s: &[u8]) -> [u8; 7]
-    requires { ⌜ length (now s) ≡ 7 ⌝ }
-    ensures { λ r. ⌜ r ≡ now (s .entry) ⌝ }
-{
-    let mut a = [0u8; 7];
-    put_text(&mut a, s);
-    a
-}
-
-// The text of nine columns.
-fn text9(s: &[u8]) -> [u8; 9]
-    requires { ⌜ length (now s) ≡ 9 ⌝ }
-    ensures { λ r. ⌜ r ≡ now (s .entry) ⌝ }
-{
-    let mut a = [0u8; 9];
-    put_text(&mut a, s);
-    a
-}
-
-// The text of fifteen columns.
-fn text15(s: &[u8]) -> [u8; 15]
-    requires { ⌜ length (now s) ≡ 15 ⌝ }
-    ensures { λ r. ⌜ r ≡ now (s .entry) ⌝ }
-{
-    let mut a = [0u8; 15];
-    put_text(&mut a, s);
-    a
-}
-
-// The text of twenty columns.
-fn text20(s: &[u8]) -> [u8; 20]
-    requires { ⌜ length (now s) ≡ 20 ⌝ }
-    ensures { λ r. ⌜ r ≡ now (s .entry) ⌝ }
-{
-    let mut a = [0u8; 20];
-    put_text(&mut a, s);
-    a
-}
-
-// The text of fifty columns.
-fn text50(s: &[u8]) -> [u8; 50]
-    requires { ⌜ length (now s) ≡ 50 ⌝ }
-    ensures { λ r. ⌜ r ≡ now (s .entry) ⌝ }
-{
-    let mut a = [0u8; 50];
-    put_text(&mut a, s);
-    a
 }
 
 // What is sent, and for whom, as the record says it.

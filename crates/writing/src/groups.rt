@@ -1,15 +1,15 @@
 // The five groups of a station's fields, each field written straight into its own columns.
 use crate::putting::put_amount;
-use crate::putting::put_byte;
-use crate::putting::put_day;
 use crate::putting::put_ground;
 use crate::putting::put_height;
 use crate::putting::put_position;
 use crate::putting::put_radius;
 use crate::putting::put_tenths;
-use crate::putting::put_text;
 use crate::putting::put_unit;
+use columns::dates::write_day;
 use columns::decimals::Format;
+use columns::texts::write_byte;
+use columns::texts::write_text;
 use station::Antenna;
 use station::Channel;
 use station::Emission;
@@ -28,12 +28,12 @@ fn put_use(g: Channel, s: &mut [u8])
     ensures { λ _. ⌜ now (s .exit) ≡ joined (drop 3 (channelPieces g)) ⌝ }
 {
     let class = g.class;
-    put_text(&mut s[0..2], &class);
+    write_text(&mut s[0..2], &class);
     let service = g.service;
-    put_text(&mut s[2..4], &service);
+    write_text(&mut s[2..4], &service);
     let users = g.users;
-    put_text(&mut s[4..6], &users);
-    put_byte(&mut s[6..7], g.carrier);
+    write_text(&mut s[4..6], &users);
+    write_byte(&mut s[6..7], g.carrier);
 }
 
 // 1A with its unit, 1Z and what follows, columns 1 to 20.
@@ -44,7 +44,7 @@ pub(crate) fn put_channel(g: Channel, s: &mut [u8])
     let transmit = g.transmit;
     put_amount(&mut s[0..11], transmit);
     put_unit(&mut s[11..12], transmit);
-    put_byte(&mut s[12..13], g.category);
+    write_byte(&mut s[12..13], g.category);
     put_use(g, &mut s[13..20]);
 }
 
@@ -67,11 +67,11 @@ pub(crate) fn put_site(g: Site, s: &mut [u8])
     ensures { λ _. ⌜ now (s .exit) ≡ joined (sitePieces g) ⌝ }
 {
     let started = g.started;
-    put_day(&mut s[0..8], started);
+    write_day(&mut s[0..8], started);
     let name = g.name;
-    put_text(&mut s[8..28], &name);
+    write_text(&mut s[8..28], &name);
     let country = g.country;
-    put_text(&mut s[28..31], &country);
+    write_text(&mut s[28..31], &country);
     put_location(g, &mut s[31..55]);
 }
 
@@ -92,10 +92,10 @@ pub(crate) fn put_emission(g: Emission, s: &mut [u8])
     ensures { λ _. ⌜ now (s .exit) ≡ joined (emissionPieces g) ⌝ }
 {
     let designation = g.designation;
-    put_text(&mut s[0..9], &designation);
+    write_text(&mut s[0..9], &designation);
     let power = g.power;
     put_tenths(Format::Power, &mut s[9..15], power);
-    put_byte(&mut s[15..16], g.basis);
+    write_byte(&mut s[15..16], g.basis);
     put_direction(g, &mut s[16..26]);
 }
 
@@ -105,9 +105,9 @@ fn put_types(g: Antenna, s: &mut [u8])
     ensures { λ _. ⌜ now (s .exit) ≡ joined (drop 3 (antennaPieces g)) ⌝ }
 {
     let horizontal = g.horizontal;
-    put_text(&mut s[0..7], &horizontal);
+    write_text(&mut s[0..7], &horizontal);
     let vertical = g.vertical;
-    put_text(&mut s[7..14], &vertical);
+    write_text(&mut s[7..14], &vertical);
 }
 
 // 9D, 9G, 9Y and the types, columns 102 to 125.
@@ -116,7 +116,7 @@ pub(crate) fn put_antenna(g: Antenna, s: &mut [u8])
     ensures { λ _. ⌜ now (s .exit) ≡ joined (antennaPieces g) ⌝ }
 {
     let polarisation = g.polarisation;
-    put_text(&mut s[0..2], &polarisation);
+    write_text(&mut s[0..2], &polarisation);
     let gain = g.gain;
     put_tenths(Format::Gain, &mut s[2..6], gain);
     let ground = g.ground;
@@ -129,13 +129,13 @@ fn put_coordination(g: Filing, s: &mut [u8])
     requires { ⌜ (length (now s) ≡ 32) × All (filingRules g) ⌝ }
     ensures { λ _. ⌜ now (s .exit) ≡ joined (drop 3 (filingPieces g)) ⌝ }
 {
-    put_byte(&mut s[0..1], g.status);
+    write_byte(&mut s[0..1], g.status);
     let requested = g.requested;
-    put_day(&mut s[1..9], requested);
+    write_day(&mut s[1..9], requested);
     let coordinated = g.coordinated;
-    put_day(&mut s[9..17], coordinated);
+    write_day(&mut s[9..17], coordinated);
     let reference = g.reference;
-    put_text(&mut s[17..32], &reference);
+    write_text(&mut s[17..32], &reference);
 }
 
 // 1Y with its unit, 13Z and what follows, columns 126 to 219.
@@ -147,6 +147,6 @@ pub(crate) fn put_filing(g: Filing, s: &mut [u8])
     put_amount(&mut s[0..11], receive);
     put_unit(&mut s[11..12], receive);
     let remarks = g.remarks;
-    put_text(&mut s[12..62], &remarks);
+    write_text(&mut s[12..62], &remarks);
     put_coordination(g, &mut s[62..94]);
 }

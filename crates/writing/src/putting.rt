@@ -1,8 +1,5 @@
 // One value that keeps its rule, written into columns of its field's width.
-use columns::dates::Day;
-use columns::dates::write_day;
 use columns::decimals::Format;
-use columns::texts::write_text;
 use fields::distances::Height;
 use fields::distances::Kilometres;
 use fields::distances::Metres;
@@ -18,38 +15,12 @@ use fields::tenths::Tenths;
 use fields::tenths::write_tenths;
 ghost use mathlib.Core.Path.{_≡_};
 ghost use mathlib.Core.Bool.{true};
-ghost use mathlib.Core.List.{[], _∷_};
 ghost use lib.ListN.{length};
-ghost use Rattle.columns.specs.Dates.{dayFits, spellDay};
 ghost use Rattle.columns.specs.Decimals.{digitsBefore, digitsAfter, maySign, formatWidth};
 ghost use Rattle.fields.specs.Distances.{radiusFits, spellRadius, groundFits, spellGround, heightFits, spellHeight};
 ghost use Rattle.fields.specs.Frequencies.{frequencyFits, spellAmount, spellUnit};
 ghost use Rattle.fields.specs.Positions.{positionFits, spellPosition};
 ghost use Rattle.fields.specs.Tenths.{tenthsFit, rangeOf, spellTenths};
-
-// A code of one byte: 1Z, 10Z, 8B2 or 13Y.
-pub(crate) fn put_byte(s: &mut [u8], b: u8)
-    requires { ⌜ length (now s) ≡ 1 ⌝ }
-    ensures { λ _. ⌜ now (s .exit) ≡ b ∷ [] ⌝ }
-{
-    s[0] = b;
-}
-
-// A text, as it is.
-pub(crate) fn put_text(s: &mut [u8], t: &[u8])
-    requires { ⌜ length (now s) ≡ length (now t) ⌝ }
-    ensures { λ _. ⌜ now (s .exit) ≡ now (t .entry) ⌝ }
-{
-    write_text(s, t);
-}
-
-// A date or blank: 2C, 2W or 2Z.
-pub(crate) fn put_day(s: &mut [u8], v: Day)
-    requires { ⌜ (length (now s) ≡ 8) × (dayFits v ≡ true) ⌝ }
-    ensures { λ _. ⌜ now (s .exit) ≡ spellDay v ⌝ }
-{
-    write_day(s, v);
-}
 
 // A frequency without its unit, or blank: 1A or 1Y.
 pub(crate) fn put_amount(s: &mut [u8], v: Frequency)

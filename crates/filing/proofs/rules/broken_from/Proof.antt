@@ -1,6 +1,6 @@
 -- `filing::rules::broken_from` meets its contract: the rules that were passed hold. Assumes nothing.
-use Prim.Native.Nat.{_+_, _-_, _≤_}
-use mathlib.Core.Path.{_≡_, refl, sym, ap, _∙_}
+use Prim.Native.Nat.{_+_, _-_}
+use mathlib.Core.Path.{_≡_, sym, _∙_}
 use native.Mathlib.Nat.{add-zero}
 use lib.ListN.{length, drop}
 use borrow.Author.Tests.{not-true, not-false}

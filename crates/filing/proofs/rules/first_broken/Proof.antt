@@ -1,8 +1,8 @@
 -- `filing::rules::first_broken` meets its contract: the rules whose number fits a byte are asked. Assumes nothing.
 use Prim.Native.Nat.{_-_, _≤_}
-use mathlib.Core.Path.{_≡_, sym, ap, _∙_}
+use mathlib.Core.Path.{sym, ap, _∙_}
 use native.Mathlib.Omega.{arith}
-use lib.ListN.{length, take}
+use lib.ListN.{length}
 use lib.Seq.{take-all, length-take-le}
 use denote.Ref.{now}
 use Rattle.filing.specs.Rules.{firstBroken}

@@ -1,4 +1,8 @@
 -- `header::reading::header_in` meets its contract: each field is read from its own columns. Assumes nothing.
+use Rattle.columns.proofs.TextLaws.{text-there}
+use denote.Ref.{now}
+use lib.ListN.{length}
+use mathlib.Core.Path.{_≡_, _∙_}
 use Rattle.header.specs.Places.{headerFields}
 use Rattle.header.specs.Values.{headerOf}
 use Rattle.header.specs.Codes.{headerValue}
@@ -192,21 +196,23 @@ returns c =
     let letter = origin .before .before in
     let content = letter .before .before in
     let number = content .before .before in
+    let r = now (number .before .before .before .args .rec) in
+    let l : length r ≡ 219 = number .before .before .before .pre in
     λ k. record {
       number = number .amount-in .ensures k;
-      content = content .text80 .ensures k;
+      content = (content .text80 .ensures ∙ text-there 80 2 r (omega arith)) k;
       letter = letter .byte .ensures k;
-      origin = origin .text3 .ensures k;
-      mail = mail .text40 .ensures k;
-      telephone = telephone .text20 .ensures k;
-      fax = fax .text202 .ensures k;
-      person = person .text203 .ensures k;
+      origin = (origin .text3 .ensures ∙ text-there 3 83 r (omega arith)) k;
+      mail = (mail .text40 .ensures ∙ text-there 40 86 r (omega arith)) k;
+      telephone = (telephone .text20 .ensures ∙ text-there 20 126 r (omega arith)) k;
+      fax = (fax .text202 .ensures ∙ text-there 20 146 r (omega arith)) k;
+      person = (person .text203 .ensures ∙ text-there 20 166 r (omega arith)) k;
       count = count .amount-in2 .ensures k;
       date = date .day-in .ensures k;
-      destination = destination .text32 .ensures k;
+      destination = (destination .text32 .ensures ∙ text-there 3 200 r (omega arith)) k;
       serial = serial .serial-in .ensures k;
-      version = version .text33 .ensures k;
-      reserve = reserve .text7 .ensures k;
+      version = (version .text33 .ensures ∙ text-there 3 209 r (omega arith)) k;
+      reserve = (reserve .text7 .ensures ∙ text-there 7 212 r (omega arith)) k;
     }
 
 pub header-in-spec : {M : Type 1} → statement M

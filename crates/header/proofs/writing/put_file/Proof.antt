@@ -1,15 +1,22 @@
 -- `header::writing::put_file` meets its contract: each field is written after the one before it. Assumes nothing.
-use mathlib.Core.Path.{_≡_}
+use mathlib.Core.Path.{_≡_, refl}
 use lib.ListN.{length}
 use Prim.Native.Nat.{ℕ}
 use mathlib.Core.List.{[], _∷_}
 use Rattle.columns.specs.Numbers.{spellWhole}
 use Rattle.header.specs.Spelling.{headerPieces}
-use Rattle.filing.proofs.WriteLaws.{nothing-yet, then-one, then-sized, all-written}
+use Rattle.filing.proofs.WriteLaws.{nothing-yet, then-text, then-sized, all-written}
 use borrow.Author.Needs.{needs}
 use native.Mathlib.Omega.{arith}
 use Rattle.header.proofs.writing.put_file.Statement.{statement}
 use Rattle.header.proofs.writing.put_file.Tie as tie
+
+-- the texts have the width of their columns
+content-wide : (s : tie.Start) → length (s .args .h .content) ≡ 80
+content-wide s = search needs
+
+origin-wide : (s : tie.Start) → length (s .args .h .origin) ≡ 3
+origin-wide s = search needs
 
 sub-put-whole : tie.Need-sub-put-whole
 sub-put-whole c = search needs
@@ -23,47 +30,47 @@ part-put-whole-end c = search needs
 put-whole-requires : tie.Need-put-whole-requires
 put-whole-requires c κs = search needs
 
-sub-put-text : tie.Need-sub-put-text
-sub-put-text c = search needs
+sub-write-text : tie.Need-sub-write-text
+sub-write-text c = search needs
 
-part-put-text-start : tie.Need-part-put-text-start
-part-put-text-start c = search needs
+part-write-text-start : tie.Need-part-write-text-start
+part-write-text-start c = search needs
 
-part-put-text-end : tie.Need-part-put-text-end
-part-put-text-end c = search needs
+part-write-text-end : tie.Need-part-write-text-end
+part-write-text-end c = search needs
 
-slice-aggregate-put-text : tie.Need-slice-aggregate-put-text
-slice-aggregate-put-text c = search needs
+slice-aggregate-write-text : tie.Need-slice-aggregate-write-text
+slice-aggregate-write-text c = search needs
 
-put-text-requires : tie.Need-put-text-requires
-put-text-requires c κs = let n : length (c .before .before .before .before .before .before .before .before .args .h .content) ≡ 80 = search needs in rw n (search needs)
+write-text-requires : tie.Need-write-text-requires
+write-text-requires c κs = search needs
 
-sub-put-byte : tie.Need-sub-put-byte
-sub-put-byte c = search needs
+sub-write-byte : tie.Need-sub-write-byte
+sub-write-byte c = search needs
 
-part-put-byte-start : tie.Need-part-put-byte-start
-part-put-byte-start c = search needs
+part-write-byte-start : tie.Need-part-write-byte-start
+part-write-byte-start c = search needs
 
-part-put-byte-end : tie.Need-part-put-byte-end
-part-put-byte-end c = search needs
+part-write-byte-end : tie.Need-part-write-byte-end
+part-write-byte-end c = search needs
 
-put-byte-requires : tie.Need-put-byte-requires
-put-byte-requires c κs = search needs
+write-byte-requires : tie.Need-write-byte-requires
+write-byte-requires c κs = search needs
 
-sub-put-text-2 : tie.Need-sub-put-text-2
-sub-put-text-2 c = search needs
+sub-write-text-2 : tie.Need-sub-write-text-2
+sub-write-text-2 c = search needs
 
-part-put-text-start-2 : tie.Need-part-put-text-start-2
-part-put-text-start-2 c = search needs
+part-write-text-start-2 : tie.Need-part-write-text-start-2
+part-write-text-start-2 c = search needs
 
-part-put-text-end-2 : tie.Need-part-put-text-end-2
-part-put-text-end-2 c = search needs
+part-write-text-end-2 : tie.Need-part-write-text-end-2
+part-write-text-end-2 c = search needs
 
-slice-aggregate-put-text-2 : tie.Need-slice-aggregate-put-text-2
-slice-aggregate-put-text-2 c = search needs
+slice-aggregate-write-text-2 : tie.Need-slice-aggregate-write-text-2
+slice-aggregate-write-text-2 c = search needs
 
-put-text-requires-2 : tie.Need-put-text-requires-2
-put-text-requires-2 c κs = let n : length (c .before .before .before .before .before .before .before .before .before .before .before .before .before .before .before .before .before .before .args .h .origin) ≡ 3 = search needs in rw n (search needs)
+write-text-requires-2 : tie.Need-write-text-requires-2
+write-text-requires-2 c κs = search needs
 
 same-length : tie.Need-same-length
 same-length c = search needs
@@ -79,9 +86,9 @@ returns c =
     let l : length (first .args .s .now) ≡ 86 = first .pre in
     let w0 = nothing-yet (first .args .s .now) in
     let w1 = then-sized w0 2 (omega arith) (λ (n : ℕ). spellWhole n (first .args .h .number)) (number .put-whole .ensures) (number .put-whole .kept .0) in
-    let w2 = then-one w1 80 (omega arith) (first .args .h .content) (content .put-text .ensures) (content .put-text .kept .0) in
-    let w3 = then-one w2 1 (omega arith) (first .args .h .letter ∷ []) (letter .put-byte .ensures) (letter .put-byte .kept .0) in
-    let w4 = then-one w3 3 (omega arith) (first .args .h .origin) (origin .put-text2 .ensures) (origin .put-text2 .kept .0) in
+    let w2 = then-text w1 80 (omega arith) (first .args .h .content) (content .write-text .ensures .1) (content-wide first) (content .write-text .kept .0) in
+    let w3 = then-text w2 1 (omega arith) (first .args .h .letter ∷ []) (letter .write-byte .ensures .1) refl (letter .write-byte .kept .0) in
+    let w4 = then-text w3 3 (omega arith) (first .args .h .origin) (origin .write-text2 .ensures .1) (origin-wide first) (origin .write-text2 .kept .0) in
     all-written w4 l
 
 pub put-file-spec : {M : Type 1} → statement M
@@ -92,19 +99,19 @@ put-file-spec =
     part-put-whole-start
     part-put-whole-end
     put-whole-requires
-    sub-put-text
-    part-put-text-start
-    part-put-text-end
-    slice-aggregate-put-text
-    put-text-requires
-    sub-put-byte
-    part-put-byte-start
-    part-put-byte-end
-    put-byte-requires
-    sub-put-text-2
-    part-put-text-start-2
-    part-put-text-end-2
-    slice-aggregate-put-text-2
-    put-text-requires-2
+    sub-write-text
+    part-write-text-start
+    part-write-text-end
+    slice-aggregate-write-text
+    write-text-requires
+    sub-write-byte
+    part-write-byte-start
+    part-write-byte-end
+    write-byte-requires
+    sub-write-text-2
+    part-write-text-start-2
+    part-write-text-end-2
+    slice-aggregate-write-text-2
+    write-text-requires-2
     same-length
     returns)

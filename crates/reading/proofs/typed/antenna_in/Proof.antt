@@ -1,4 +1,9 @@
 -- `reading::typed::antenna_in` meets its contract: each field is read from its own columns. Assumes nothing.
+use Rattle.columns.proofs.TextLaws.{text-there}
+use native.Mathlib.Omega.{arith}
+use denote.Ref.{now}
+use lib.ListN.{length}
+use mathlib.Core.Path.{_≡_, _∙_}
 use Rattle.station.specs.Places.{fieldsOf}
 use Rattle.station.specs.Values.{stationOf}
 use Rattle.station.specs.Codes.{valueOf}
@@ -73,12 +78,14 @@ returns c =
     let at-ground = at-horizontal .before .before in
     let at-gain = at-ground .before .before in
     let at-polarisation = at-gain .before .before in
+    let r = now (at-polarisation .before .before .before .args .rec) in
+    let l : length r ≡ 219 = at-polarisation .before .before .before .pre in
     λ k. record {
-      polarisation = at-polarisation .text2 .ensures k;
+      polarisation = (at-polarisation .text2 .ensures ∙ text-there 2 101 r (omega arith)) k;
       gain = at-gain .read-tenths .ensures k;
       ground = at-ground .read-ground .ensures k;
-      horizontal = at-horizontal .text7 .ensures k;
-      vertical = c .text72 .ensures k;
+      horizontal = (at-horizontal .text7 .ensures ∙ text-there 7 111 r (omega arith)) k;
+      vertical = (c .text72 .ensures ∙ text-there 7 118 r (omega arith)) k;
     }
 
 pub antenna-in-spec : {M : Type 1} → statement M

@@ -1,5 +1,7 @@
 -- `reading::typed::channel_in` meets its contract: each field is read from its own columns. Assumes nothing.
-use mathlib.Core.Path.{sym}
+use Rattle.columns.proofs.TextLaws.{text-there}
+use lib.ListN.{length}
+use mathlib.Core.Path.{_≡_, sym, _∙_}
 use denote.Ref.{now}
 use Rattle.station.specs.Places.{fieldsOf}
 use Rattle.station.specs.Values.{stationOf}
@@ -81,12 +83,13 @@ returns c =
     let at-class = at-service .before .before in
     let at-transmit = at-class .before .before .before in
     let r = now (at-transmit .before .before .before .before .args .rec) in
+    let l : length r ≡ 219 = at-transmit .before .before .before .before .pre in
     λ k. record {
       transmit = at-transmit .read-frequency .ensures k;
       category = sym (head-field 1 12 r (omega arith)) k;
-      class = at-class .text2 .ensures k;
-      service = at-service .text22 .ensures k;
-      users = at-users .text23 .ensures k;
+      class = (at-class .text2 .ensures ∙ text-there 2 13 r (omega arith)) k;
+      service = (at-service .text22 .ensures ∙ text-there 2 15 r (omega arith)) k;
+      users = (at-users .text23 .ensures ∙ text-there 2 17 r (omega arith)) k;
       carrier = sym (head-field 1 19 r (omega arith)) k;
     }
 

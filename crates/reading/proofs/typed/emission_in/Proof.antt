@@ -1,5 +1,7 @@
 -- `reading::typed::emission_in` meets its contract: each field is read from its own columns. Assumes nothing.
-use mathlib.Core.Path.{sym}
+use Rattle.columns.proofs.TextLaws.{text-there}
+use lib.ListN.{length}
+use mathlib.Core.Path.{_≡_, sym, _∙_}
 use denote.Ref.{now}
 use Rattle.station.specs.Places.{fieldsOf}
 use Rattle.station.specs.Values.{stationOf}
@@ -68,8 +70,9 @@ returns c =
     let at-power = at-azimuth .before .before .before in
     let at-designation = at-power .before .before in
     let r = now (at-designation .before .before .before .args .rec) in
+    let l : length r ≡ 219 = at-designation .before .before .before .pre in
     λ k. record {
-      designation = at-designation .text9 .ensures k;
+      designation = (at-designation .text9 .ensures ∙ text-there 9 75 r (omega arith)) k;
       power = at-power .read-tenths .ensures k;
       basis = sym (head-field 1 90 r (omega arith)) k;
       azimuth = at-azimuth .read-tenths2 .ensures k;

@@ -1,5 +1,7 @@
 -- `reading::typed::filing_in` meets its contract: each field is read from its own columns. Assumes nothing.
-use mathlib.Core.Path.{sym}
+use Rattle.columns.proofs.TextLaws.{text-there}
+use lib.ListN.{length}
+use mathlib.Core.Path.{_≡_, sym, _∙_}
 use denote.Ref.{now}
 use Rattle.station.specs.Places.{fieldsOf}
 use Rattle.station.specs.Values.{stationOf}
@@ -90,13 +92,14 @@ returns c =
     let at-remarks = at-requested .before .before .before in
     let at-receive = at-remarks .before .before in
     let r = now (at-receive .before .before .before .before .args .rec) in
+    let l : length r ≡ 219 = at-receive .before .before .before .before .pre in
     λ k. record {
       receive = at-receive .read-frequency .ensures k;
-      remarks = at-remarks .text50 .ensures k;
+      remarks = (at-remarks .text50 .ensures ∙ text-there 50 137 r (omega arith)) k;
       status = sym (head-field 1 187 r (omega arith)) k;
       requested = at-requested .day-in .ensures k;
       coordinated = at-coordinated .day-in2 .ensures k;
-      reference = c .text15 .ensures k;
+      reference = (c .text15 .ensures ∙ text-there 15 204 r (omega arith)) k;
     }
 
 pub filing-in-spec : {M : Type 1} → statement M

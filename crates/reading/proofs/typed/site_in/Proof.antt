@@ -1,4 +1,8 @@
 -- `reading::typed::site_in` meets its contract: each field is read from its own columns, and rule 11 lets 4C be read. Assumes nothing.
+use Rattle.columns.proofs.TextLaws.{text-there}
+use native.Mathlib.Omega.{arith}
+use lib.ListN.{length}
+use mathlib.Core.Path.{_≡_, _∙_}
 use denote.Ref.{now}
 use Rattle.filing.proofs.RuleLaws.{rule}
 use Rattle.station.specs.Rules.{channelFields, siteFields, emissionFields, antennaFields, filingFields, fieldRules}
@@ -92,10 +96,12 @@ returns c =
     let at-country = at-position .before .before in
     let at-name = at-country .before .before in
     let at-started = at-name .before .before in
+    let r = now (at-started .before .before .before .args .rec) in
+    let l : length r ≡ 219 = at-started .before .before .before .pre .0 in
     λ k. record {
       started = at-started .day-in .ensures k;
-      name = at-name .text20 .ensures k;
-      country = at-country .text3 .ensures k;
+      name = (at-name .text20 .ensures ∙ text-there 20 28 r (omega arith)) k;
+      country = (at-country .text3 .ensures ∙ text-there 3 48 r (omega arith)) k;
       position = at-position .position-in .ensures k;
       radius = at-radius .read-radius .ensures k;
       height = c .read-height .ensures k;

@@ -1,31 +1,35 @@
 -- `writing::groups::put_antenna` meets its contract: each field is written after the one before it. Assumes nothing.
 use mathlib.Core.Path.{_≡_}
 use mathlib.Core.Bool.{false}
-use lib.ListN.{length, take, drop}
+use lib.ListN.{length, drop}
 use Rattle.fields.specs.Tenths.{spellTenths}
 use Rattle.fields.specs.Distances.{spellGround}
 use Rattle.station.specs.Rules.{antennaRules}
 use Rattle.station.specs.Spelling.{antennaPieces}
-use Rattle.filing.proofs.WriteLaws.{nothing-yet, then-one, then-some, all-written}
+use Rattle.filing.proofs.WriteLaws.{nothing-yet, then-one, then-text, then-some, all-written}
 use borrow.Author.Needs.{needs}
 use native.Mathlib.Omega.{arith}
 use Rattle.writing.proofs.groups.put_antenna.Statement.{statement}
 use Rattle.writing.proofs.groups.put_antenna.Tie as tie
 
-sub-put-text : tie.Need-sub-put-text
-sub-put-text c = search needs
+-- the texts have the width of their columns
+polarisation-wide : (s : tie.Start) → length (s .args .g .polarisation) ≡ 2
+polarisation-wide s = search needs
 
-part-put-text-start : tie.Need-part-put-text-start
-part-put-text-start c = search needs
+sub-write-text : tie.Need-sub-write-text
+sub-write-text c = search needs
 
-part-put-text-end : tie.Need-part-put-text-end
-part-put-text-end c = search needs
+part-write-text-start : tie.Need-part-write-text-start
+part-write-text-start c = search needs
 
-slice-aggregate-put-text : tie.Need-slice-aggregate-put-text
-slice-aggregate-put-text c = search needs
+part-write-text-end : tie.Need-part-write-text-end
+part-write-text-end c = search needs
 
-put-text-requires : tie.Need-put-text-requires
-put-text-requires c κs = let n : length (c .before .before .before .before .args .g .polarisation) ≡ 2 = search needs in rw n (search needs)
+slice-aggregate-write-text : tie.Need-slice-aggregate-write-text
+slice-aggregate-write-text c = search needs
+
+write-text-requires : tie.Need-write-text-requires
+write-text-requires c κs = search needs
 
 sub-put-tenths : tie.Need-sub-put-tenths
 sub-put-tenths c = search needs
@@ -79,7 +83,7 @@ returns c =
     let g = start .args .g in
     let l : length (start .args .s .now) ≡ 24 = start .pre .0 in
     let w0 = nothing-yet (start .args .s .now) in
-    let w1 = then-one w0 2 (omega arith) (g .polarisation) (polarisation .put-text .ensures) (polarisation .put-text .kept .0) in
+    let w1 = then-text w0 2 (omega arith) (g .polarisation) (polarisation .write-text .ensures .1) (polarisation-wide start) (polarisation .write-text .kept .0) in
     let w2 = then-one w1 4 (omega arith) (spellTenths 2 1 false (g .gain)) (gain .put-tenths .ensures) (gain .put-tenths .kept .1 .0) in
     let w3 = then-one w2 4 (omega arith) (spellGround (g .ground)) (ground .put-ground .ensures) (ground .put-ground .kept .0) in
     let w4 = then-some w3 14 (omega arith) (drop 3 (antennaPieces g)) (rest .put-types .ensures) (rest .put-types .kept .1 .0) in
@@ -89,11 +93,11 @@ pub put-antenna-spec : {M : Type 1} → statement M
 put-antenna-spec =
     tie.close
     (tie.spec
-    sub-put-text
-    part-put-text-start
-    part-put-text-end
-    slice-aggregate-put-text
-    put-text-requires
+    sub-write-text
+    part-write-text-start
+    part-write-text-end
+    slice-aggregate-write-text
+    write-text-requires
     sub-put-tenths
     part-put-tenths-start
     part-put-tenths-end

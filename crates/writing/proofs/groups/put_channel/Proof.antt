@@ -1,11 +1,11 @@
 -- `writing::groups::put_channel` meets its contract: each field is written after the one before it. Assumes nothing.
-use mathlib.Core.Path.{_≡_}
+use mathlib.Core.Path.{_≡_, refl}
 use mathlib.Core.List.{[], _∷_}
-use lib.ListN.{length, take, drop}
+use lib.ListN.{length, drop}
 use Rattle.fields.specs.Frequencies.{spellAmount, spellUnit}
 use Rattle.station.specs.Rules.{channelRules}
 use Rattle.station.specs.Spelling.{channelPieces}
-use Rattle.filing.proofs.WriteLaws.{nothing-yet, then-one, then-some, all-written}
+use Rattle.filing.proofs.WriteLaws.{nothing-yet, then-one, then-text, then-some, all-written}
 use borrow.Author.Needs.{needs}
 use native.Mathlib.Omega.{arith}
 use Rattle.writing.proofs.groups.put_channel.Statement.{statement}
@@ -36,17 +36,17 @@ part-put-unit-end c = search needs
 put-unit-requires : tie.Need-put-unit-requires
 put-unit-requires c κs = search needs
 
-sub-put-byte : tie.Need-sub-put-byte
-sub-put-byte c = search needs
+sub-write-byte : tie.Need-sub-write-byte
+sub-write-byte c = search needs
 
-part-put-byte-start : tie.Need-part-put-byte-start
-part-put-byte-start c = search needs
+part-write-byte-start : tie.Need-part-write-byte-start
+part-write-byte-start c = search needs
 
-part-put-byte-end : tie.Need-part-put-byte-end
-part-put-byte-end c = search needs
+part-write-byte-end : tie.Need-part-write-byte-end
+part-write-byte-end c = search needs
 
-put-byte-requires : tie.Need-put-byte-requires
-put-byte-requires c κs = search needs
+write-byte-requires : tie.Need-write-byte-requires
+write-byte-requires c κs = search needs
 
 sub-put-use : tie.Need-sub-put-use
 sub-put-use c = search needs
@@ -76,7 +76,7 @@ returns c =
     let w0 = nothing-yet (start .args .s .now) in
     let w1 = then-one w0 11 (omega arith) (spellAmount (g .transmit)) (transmit .put-amount .ensures) (transmit .put-amount .kept .0) in
     let w2 = then-one w1 1 (omega arith) (spellUnit (g .transmit)) (unit .put-unit .ensures) (unit .put-unit .kept .0) in
-    let w3 = then-one w2 1 (omega arith) (g .category ∷ []) (category .put-byte .ensures) (category .put-byte .kept .0) in
+    let w3 = then-text w2 1 (omega arith) (g .category ∷ []) (category .write-byte .ensures .1) refl (category .write-byte .kept .0) in
     let w4 = then-some w3 7 (omega arith) (drop 3 (channelPieces g)) (rest .put-use .ensures) (rest .put-use .kept .1 .0) in
     all-written w4 l
 
@@ -92,10 +92,10 @@ put-channel-spec =
     part-put-unit-start
     part-put-unit-end
     put-unit-requires
-    sub-put-byte
-    part-put-byte-start
-    part-put-byte-end
-    put-byte-requires
+    sub-write-byte
+    part-write-byte-start
+    part-write-byte-end
+    write-byte-requires
     sub-put-use
     part-put-use-start
     part-put-use-end

@@ -1,74 +1,76 @@
 -- `writing::groups::put_coordination` meets its contract: each field is written after the one before it. Assumes nothing.
-use mathlib.Core.Path.{_≡_}
+use mathlib.Core.Path.{_≡_, refl}
 use mathlib.Core.List.{[], _∷_}
-use lib.ListN.{length, take, drop}
+use lib.ListN.{length}
 use Rattle.columns.specs.Dates.{spellDay}
 use Rattle.station.specs.Rules.{filingRules}
 use Rattle.station.specs.Spelling.{filingPieces}
-use Rattle.filing.proofs.WriteLaws.{nothing-yet, then-one, all-written}
+use Rattle.filing.proofs.WriteLaws.{nothing-yet, then-fitting, then-text, all-written}
 use borrow.Author.Needs.{needs}
 use native.Mathlib.Omega.{arith}
 use Rattle.writing.proofs.groups.put_coordination.Statement.{statement}
 use Rattle.writing.proofs.groups.put_coordination.Tie as tie
 
-sub-put-byte : tie.Need-sub-put-byte
-sub-put-byte c = search needs
+-- the texts have the width of their columns
+reference-wide : (s : tie.Start) → length (s .args .g .reference) ≡ 15
+reference-wide s = search needs
 
-part-put-byte-start : tie.Need-part-put-byte-start
-part-put-byte-start c = search needs
+sub-write-byte : tie.Need-sub-write-byte
+sub-write-byte c = search needs
 
-part-put-byte-end : tie.Need-part-put-byte-end
-part-put-byte-end c = search needs
+part-write-byte-start : tie.Need-part-write-byte-start
+part-write-byte-start c = search needs
 
-put-byte-requires : tie.Need-put-byte-requires
-put-byte-requires c κs = search needs
+part-write-byte-end : tie.Need-part-write-byte-end
+part-write-byte-end c = search needs
 
-sub-put-day : tie.Need-sub-put-day
-sub-put-day c = search needs
+write-byte-requires : tie.Need-write-byte-requires
+write-byte-requires c κs = search needs
 
-part-put-day-start : tie.Need-part-put-day-start
-part-put-day-start c = search needs
+sub-write-day : tie.Need-sub-write-day
+sub-write-day c = search needs
 
-part-put-day-end : tie.Need-part-put-day-end
-part-put-day-end c = search needs
+part-write-day-start : tie.Need-part-write-day-start
+part-write-day-start c = search needs
 
-put-day-requires : tie.Need-put-day-requires
-unfolding filingRules
-put-day-requires c κs = (search needs, c .before .before .before .before .before .before .pre .1 .1 .1 .1 .1 .0)
+part-write-day-end : tie.Need-part-write-day-end
+part-write-day-end c = search needs
 
-sub-put-day-2 : tie.Need-sub-put-day-2
-sub-put-day-2 c = search needs
+write-day-requires : tie.Need-write-day-requires
+write-day-requires c κs = search needs
 
-part-put-day-start-2 : tie.Need-part-put-day-start-2
-part-put-day-start-2 c = search needs
+sub-write-day-2 : tie.Need-sub-write-day-2
+sub-write-day-2 c = search needs
 
-part-put-day-end-2 : tie.Need-part-put-day-end-2
-part-put-day-end-2 c = search needs
+part-write-day-start-2 : tie.Need-part-write-day-start-2
+part-write-day-start-2 c = search needs
 
-put-day-requires-2 : tie.Need-put-day-requires-2
-unfolding filingRules
-put-day-requires-2 c κs = (search needs, c .before .before .before .before .before .before .before .before .before .before .pre .1 .1 .1 .1 .1 .1 .0)
+part-write-day-end-2 : tie.Need-part-write-day-end-2
+part-write-day-end-2 c = search needs
 
-sub-put-text : tie.Need-sub-put-text
-sub-put-text c = search needs
+write-day-requires-2 : tie.Need-write-day-requires-2
+write-day-requires-2 c κs = search needs
 
-part-put-text-start : tie.Need-part-put-text-start
-part-put-text-start c = search needs
+sub-write-text : tie.Need-sub-write-text
+sub-write-text c = search needs
 
-part-put-text-end : tie.Need-part-put-text-end
-part-put-text-end c = search needs
+part-write-text-start : tie.Need-part-write-text-start
+part-write-text-start c = search needs
 
-slice-aggregate-put-text : tie.Need-slice-aggregate-put-text
-slice-aggregate-put-text c = search needs
+part-write-text-end : tie.Need-part-write-text-end
+part-write-text-end c = search needs
 
-put-text-requires : tie.Need-put-text-requires
-put-text-requires c κs = let n : length (c .before .before .before .before .before .before .before .before .before .before .before .before .before .before .before .before .args .g .reference) ≡ 15 = search needs in rw n (search needs)
+slice-aggregate-write-text : tie.Need-slice-aggregate-write-text
+slice-aggregate-write-text c = search needs
+
+write-text-requires : tie.Need-write-text-requires
+write-text-requires c κs = search needs
 
 same-length : tie.Need-same-length
 same-length c = search needs
 
 returns : tie.Need-returns
-unfolding filingPieces
+unfolding filingPieces filingRules
 returns c =
     let reference = c .before .before in
     let coordinated = reference .before .before .before .before .before .before in
@@ -78,32 +80,32 @@ returns c =
     let g = start .args .g in
     let l : length (start .args .s .now) ≡ 32 = start .pre .0 in
     let w0 = nothing-yet (start .args .s .now) in
-    let w1 = then-one w0 1 (omega arith) (g .status ∷ []) (status .put-byte .ensures) (status .put-byte .kept .0) in
-    let w2 = then-one w1 8 (omega arith) (spellDay (g .requested)) (requested .put-day .ensures) (requested .put-day .kept .0) in
-    let w3 = then-one w2 8 (omega arith) (spellDay (g .coordinated)) (coordinated .put-day2 .ensures) (coordinated .put-day2 .kept .0) in
-    let w4 = then-one w3 15 (omega arith) (g .reference) (reference .put-text .ensures) (reference .put-text .kept .0) in
+    let w1 = then-text w0 1 (omega arith) (g .status ∷ []) (status .write-byte .ensures .1) refl (status .write-byte .kept .0) in
+    let w2 = then-fitting w1 8 (omega arith) (spellDay (g .requested)) (requested .write-day .ensures .1) (start .pre .1 .1 .1 .1 .1 .0) (requested .write-day .kept .0) in
+    let w3 = then-fitting w2 8 (omega arith) (spellDay (g .coordinated)) (coordinated .write-day2 .ensures .1) (start .pre .1 .1 .1 .1 .1 .1 .0) (coordinated .write-day2 .kept .0) in
+    let w4 = then-text w3 15 (omega arith) (g .reference) (reference .write-text .ensures .1) (reference-wide start) (reference .write-text .kept .0) in
     all-written w4 l
 
 pub put-coordination-spec : {M : Type 1} → statement M
 put-coordination-spec =
     tie.close
     (tie.spec
-    sub-put-byte
-    part-put-byte-start
-    part-put-byte-end
-    put-byte-requires
-    sub-put-day
-    part-put-day-start
-    part-put-day-end
-    put-day-requires
-    sub-put-day-2
-    part-put-day-start-2
-    part-put-day-end-2
-    put-day-requires-2
-    sub-put-text
-    part-put-text-start
-    part-put-text-end
-    slice-aggregate-put-text
-    put-text-requires
+    sub-write-byte
+    part-write-byte-start
+    part-write-byte-end
+    write-byte-requires
+    sub-write-day
+    part-write-day-start
+    part-write-day-end
+    write-day-requires
+    sub-write-day-2
+    part-write-day-start-2
+    part-write-day-end-2
+    write-day-requires-2
+    sub-write-text
+    part-write-text-start
+    part-write-text-end
+    slice-aggregate-write-text
+    write-text-requires
     same-length
     returns)

@@ -1,14 +1,18 @@
 -- `writing::groups::put_filing` meets its contract: each field is written after the one before it. Assumes nothing.
 use mathlib.Core.Path.{_≡_}
-use lib.ListN.{length, take, drop}
+use lib.ListN.{length, drop}
 use Rattle.fields.specs.Frequencies.{spellAmount, spellUnit}
 use Rattle.station.specs.Rules.{filingRules}
 use Rattle.station.specs.Spelling.{filingPieces}
-use Rattle.filing.proofs.WriteLaws.{nothing-yet, then-one, then-some, all-written}
+use Rattle.filing.proofs.WriteLaws.{nothing-yet, then-one, then-text, then-some, all-written}
 use borrow.Author.Needs.{needs}
 use native.Mathlib.Omega.{arith}
 use Rattle.writing.proofs.groups.put_filing.Statement.{statement}
 use Rattle.writing.proofs.groups.put_filing.Tie as tie
+
+-- the texts have the width of their columns
+remarks-wide : (s : tie.Start) → length (s .args .g .remarks) ≡ 50
+remarks-wide s = search needs
 
 sub-put-amount : tie.Need-sub-put-amount
 sub-put-amount c = search needs
@@ -35,20 +39,20 @@ part-put-unit-end c = search needs
 put-unit-requires : tie.Need-put-unit-requires
 put-unit-requires c κs = search needs
 
-sub-put-text : tie.Need-sub-put-text
-sub-put-text c = search needs
+sub-write-text : tie.Need-sub-write-text
+sub-write-text c = search needs
 
-part-put-text-start : tie.Need-part-put-text-start
-part-put-text-start c = search needs
+part-write-text-start : tie.Need-part-write-text-start
+part-write-text-start c = search needs
 
-part-put-text-end : tie.Need-part-put-text-end
-part-put-text-end c = search needs
+part-write-text-end : tie.Need-part-write-text-end
+part-write-text-end c = search needs
 
-slice-aggregate-put-text : tie.Need-slice-aggregate-put-text
-slice-aggregate-put-text c = search needs
+slice-aggregate-write-text : tie.Need-slice-aggregate-write-text
+slice-aggregate-write-text c = search needs
 
-put-text-requires : tie.Need-put-text-requires
-put-text-requires c κs = let n : length (c .before .before .before .before .before .before .before .before .before .before .before .before .args .g .remarks) ≡ 50 = search needs in rw n (search needs)
+write-text-requires : tie.Need-write-text-requires
+write-text-requires c κs = search needs
 
 sub-put-coordination : tie.Need-sub-put-coordination
 sub-put-coordination c = search needs
@@ -78,7 +82,7 @@ returns c =
     let w0 = nothing-yet (start .args .s .now) in
     let w1 = then-one w0 11 (omega arith) (spellAmount (g .receive)) (receive .put-amount .ensures) (receive .put-amount .kept .0) in
     let w2 = then-one w1 1 (omega arith) (spellUnit (g .receive)) (unit .put-unit .ensures) (unit .put-unit .kept .0) in
-    let w3 = then-one w2 50 (omega arith) (g .remarks) (remarks .put-text .ensures) (remarks .put-text .kept .0) in
+    let w3 = then-text w2 50 (omega arith) (g .remarks) (remarks .write-text .ensures .1) (remarks-wide start) (remarks .write-text .kept .0) in
     let w4 = then-some w3 32 (omega arith) (drop 3 (filingPieces g)) (rest .put-coordination .ensures) (rest .put-coordination .kept .1 .0) in
     all-written w4 l
 
@@ -94,11 +98,11 @@ put-filing-spec =
     part-put-unit-start
     part-put-unit-end
     put-unit-requires
-    sub-put-text
-    part-put-text-start
-    part-put-text-end
-    slice-aggregate-put-text
-    put-text-requires
+    sub-write-text
+    part-write-text-start
+    part-write-text-end
+    slice-aggregate-write-text
+    write-text-requires
     sub-put-coordination
     part-put-coordination-start
     part-put-coordination-end

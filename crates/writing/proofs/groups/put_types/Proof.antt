@@ -1,42 +1,49 @@
 -- `writing::groups::put_types` meets its contract: each field is written after the one before it. Assumes nothing.
 use mathlib.Core.Path.{_≡_}
-use lib.ListN.{length, take, drop}
+use lib.ListN.{length}
 use Rattle.station.specs.Spelling.{antennaPieces}
-use Rattle.filing.proofs.WriteLaws.{nothing-yet, then-one, all-written}
+use Rattle.filing.proofs.WriteLaws.{nothing-yet, then-text, all-written}
 use borrow.Author.Needs.{needs}
 use native.Mathlib.Omega.{arith}
 use Rattle.writing.proofs.groups.put_types.Statement.{statement}
 use Rattle.writing.proofs.groups.put_types.Tie as tie
 
-sub-put-text : tie.Need-sub-put-text
-sub-put-text c = search needs
+-- the texts have the width of their columns
+horizontal-wide : (s : tie.Start) → length (s .args .g .horizontal) ≡ 7
+horizontal-wide s = search needs
 
-part-put-text-start : tie.Need-part-put-text-start
-part-put-text-start c = search needs
+vertical-wide : (s : tie.Start) → length (s .args .g .vertical) ≡ 7
+vertical-wide s = search needs
 
-part-put-text-end : tie.Need-part-put-text-end
-part-put-text-end c = search needs
+sub-write-text : tie.Need-sub-write-text
+sub-write-text c = search needs
 
-slice-aggregate-put-text : tie.Need-slice-aggregate-put-text
-slice-aggregate-put-text c = search needs
+part-write-text-start : tie.Need-part-write-text-start
+part-write-text-start c = search needs
 
-put-text-requires : tie.Need-put-text-requires
-put-text-requires c κs = let n : length (c .before .before .before .before .args .g .horizontal) ≡ 7 = search needs in rw n (search needs)
+part-write-text-end : tie.Need-part-write-text-end
+part-write-text-end c = search needs
 
-sub-put-text-2 : tie.Need-sub-put-text-2
-sub-put-text-2 c = search needs
+slice-aggregate-write-text : tie.Need-slice-aggregate-write-text
+slice-aggregate-write-text c = search needs
 
-part-put-text-start-2 : tie.Need-part-put-text-start-2
-part-put-text-start-2 c = search needs
+write-text-requires : tie.Need-write-text-requires
+write-text-requires c κs = search needs
 
-part-put-text-end-2 : tie.Need-part-put-text-end-2
-part-put-text-end-2 c = search needs
+sub-write-text-2 : tie.Need-sub-write-text-2
+sub-write-text-2 c = search needs
 
-slice-aggregate-put-text-2 : tie.Need-slice-aggregate-put-text-2
-slice-aggregate-put-text-2 c = search needs
+part-write-text-start-2 : tie.Need-part-write-text-start-2
+part-write-text-start-2 c = search needs
 
-put-text-requires-2 : tie.Need-put-text-requires-2
-put-text-requires-2 c κs = let n : length (c .before .before .before .before .before .before .before .before .before .before .args .g .vertical) ≡ 7 = search needs in rw n (search needs)
+part-write-text-end-2 : tie.Need-part-write-text-end-2
+part-write-text-end-2 c = search needs
+
+slice-aggregate-write-text-2 : tie.Need-slice-aggregate-write-text-2
+slice-aggregate-write-text-2 c = search needs
+
+write-text-requires-2 : tie.Need-write-text-requires-2
+write-text-requires-2 c κs = search needs
 
 same-length : tie.Need-same-length
 same-length c = search needs
@@ -50,23 +57,23 @@ returns c =
     let g = start .args .g in
     let l : length (start .args .s .now) ≡ 14 = start .pre in
     let w0 = nothing-yet (start .args .s .now) in
-    let w1 = then-one w0 7 (omega arith) (g .horizontal) (horizontal .put-text .ensures) (horizontal .put-text .kept .0) in
-    let w2 = then-one w1 7 (omega arith) (g .vertical) (vertical .put-text2 .ensures) (vertical .put-text2 .kept .0) in
+    let w1 = then-text w0 7 (omega arith) (g .horizontal) (horizontal .write-text .ensures .1) (horizontal-wide start) (horizontal .write-text .kept .0) in
+    let w2 = then-text w1 7 (omega arith) (g .vertical) (vertical .write-text2 .ensures .1) (vertical-wide start) (vertical .write-text2 .kept .0) in
     all-written w2 l
 
 pub put-types-spec : {M : Type 1} → statement M
 put-types-spec =
     tie.close
     (tie.spec
-    sub-put-text
-    part-put-text-start
-    part-put-text-end
-    slice-aggregate-put-text
-    put-text-requires
-    sub-put-text-2
-    part-put-text-start-2
-    part-put-text-end-2
-    slice-aggregate-put-text-2
-    put-text-requires-2
+    sub-write-text
+    part-write-text-start
+    part-write-text-end
+    slice-aggregate-write-text
+    write-text-requires
+    sub-write-text-2
+    part-write-text-start-2
+    part-write-text-end-2
+    slice-aggregate-write-text-2
+    write-text-requires-2
     same-length
     returns)
