@@ -31,11 +31,12 @@ cut-joined front c (q ∷ qs) (p ∷ ps) l t w =
     let rest : cut qs ((front ++ p) ++ joined ps) ≡ ps = cut-joined (front ++ p) (c + q .1) qs ps m (a .1) (w .1) in
     rw (here, ← append-assoc, rest)
 
--- the pieces of a record are as long as their places
-tiles-inside : (c : ℕ) (qs : List (ℕ × ℕ)) → tilesFrom c qs ≡ true → c ≤ recordLength + 1
+-- a tiling ends at the record's end
+pub tiles-inside : (c : ℕ) (qs : List (ℕ × ℕ)) → tilesFrom c qs ≡ true → c ≤ recordLength + 1
 tiles-inside c [] t = omega (arith, eqb-true c (recordLength + 1) t)
 tiles-inside c (q ∷ qs) t = omega (arith, tiles-inside (c + q .1) qs (and-eq-true-iff (eqb (q .0) c) (tilesFrom (c + q .1) qs) .0 t .1))
 
+-- the pieces of a record are as long as their places
 pub cut-wide : (r : List ℕ) → length r ≡ recordLength → (c : ℕ) (qs : List (ℕ × ℕ)) → 1 ≤ c → tilesFrom c qs ≡ true → Wide qs (cut qs r)
 cut-wide r n c [] one t = tt
 cut-wide r n c (q ∷ qs) one t =

@@ -1,28 +1,20 @@
--- Document 01, "Refusal numbers": how the calls on files and sheets end, and what they hand back and leave.
+-- Document 01, "Refusal numbers": how the calls on sheets end, and what they hand back and leave.
 use Prim.Native.Nat.{ℕ}
-use mathlib.Core.Bool.{Bool, cond, not, _||_}
-use mathlib.Core.List.{List, []}
-use lib.Dec.{ltb, eqb}
+use mathlib.Core.Bool.{cond}
+use mathlib.Core.List.{List, [], _∷_}
 use Rattle.columns.specs.Texts.{sized}
 use Rattle.filing.specs.Fields.{recordLength}
 use Rattle.filing.specs.Outcomes.{ifDone}
 use Rattle.filing.specs.declared.Outcome.{Outcome}
 use Rattle.filing.specs.declared.Outcome.the-variants as outcome
-use Rattle.sheet.specs.Files.{stations, tooLong, notRecords, withRecord, fieldAt, fieldCount}
+use Rattle.files.specs.Files.{stations, withRecord}
+use Rattle.files.specs.Calls.{fileOutcome, numberOutcome}
 use Rattle.sheet.specs.Sheets.{sheetLength, sheetOf, trailerFits}
 use Rattle.sheet.specs.Replacing.{mendedSheet, rowsWritten}
-
--- Where the file's length is right the rest is asked; where it is wrong, 1 and 2 settle the call.
-unfoldable pub fileOutcome : List ℕ → Outcome → Outcome
-fileOutcome file rest = cond (tooLong file) outcome.FileTooLong (cond (notRecords file) outcome.FileNotRecords rest)
 
 -- The lent sheet is not exactly 2n + 8 bytes.
 abbrev pub sheetOutcome : List ℕ → List ℕ → Outcome → Outcome
 sheetOutcome file sheet rest = cond (sized (sheetLength (stations file)) sheet) rest outcome.SheetLength
-
--- The record's number is above n.
-abbrev pub numberOutcome : List ℕ → ℕ → Outcome → Outcome
-numberOutcome file k rest = cond (ltb (stations file) k) outcome.NoSuchRecord rest
 
 -- Judging uses 1 to 3.
 unfoldable pub judgeOutcome : List ℕ → List ℕ → Outcome
@@ -54,13 +46,8 @@ replacedSheet file sheet k r = ifDone (replaceOutcome file sheet k r) (mendedShe
 unfoldable pub replacedRows : List ℕ → List ℕ → ℕ → List ℕ → ℕ
 replacedRows file sheet k r = ifDone (replaceOutcome file sheet k r) (rowsWritten (stations file) file k r) 0
 
--- Showing uses 1, 2, 5 and 8.
-unfoldable pub showOutcome : List ℕ → ℕ → ℕ → Outcome
-showOutcome file k j =
-    fileOutcome file
-    (numberOutcome file k
-    (cond (eqb j 0 || ltb (fieldCount k) j) outcome.NoSuchField outcome.Done))
-
--- It answers the piece of the file that holds the field, and an empty one on a refusal.
-unfoldable pub shownField : List ℕ → ℕ → ℕ → List ℕ
-shownField file k j = ifDone (showOutcome file k j) (fieldAt file k j) []
+-- The file and the sheet after a run of replacements, one after the other, refused ones among them.
+unfoldable pub afterAll : List ℕ × List ℕ → List (ℕ × List ℕ) → List ℕ × List ℕ
+afterAll s [] = s
+afterAll s (call ∷ calls) =
+    afterAll (replacedFile (s .0) (s .1) (call .0) (call .1), replacedSheet (s .0) (s .1) (call .0) (call .1)) calls

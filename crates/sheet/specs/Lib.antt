@@ -1,5 +1,5 @@
 pub mod Counting
-pub mod Files
 pub mod Sheets
 pub mod Replacing
 pub mod Calls
+pub mod Promises

@@ -7,8 +7,8 @@ use lib.Dec.{leb}
 use Rattle.columns.specs.Texts.{same}
 use Rattle.header.specs.Codes.{filedHeaderCode}
 use Rattle.sheet.specs.Counting.{count, rows}
-use Rattle.sheet.specs.Files.{referenceAt, withRecord}
-use Rattle.sheet.specs.Sheets.{rowWidth, rowOf, rowIn, withTrailer, headIn}
+use Rattle.files.specs.Files.{withRecord}
+use Rattle.sheet.specs.Sheets.{rowWidth, referenceAt, rowOf, rowIn, withTrailer, headIn}
 
 -- Row j is written: row k, and every later row whose 13X equals the old or the new 13X of k, equal or not.
 unfoldable pub touched : List ℕ → List ℕ → ℕ → ℕ → Bool

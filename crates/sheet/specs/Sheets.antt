@@ -1,14 +1,16 @@
 -- Document 01, "The sheet": a row for each station and the trailer. What is said of rows holds for any width.
-use Prim.Native.Nat.{ℕ, zero, suc, _+_, _-_, _*_, _/_, _%_}
-use Prim.Native.Char.{code}
+use Prim.Native.Nat.{ℕ, _+_, _-_, _*_, _/_, _%_}
 use mathlib.Core.Bool.{Bool, not, _&&_}
 use mathlib.Core.List.{List, [], _∷_, _++_}
-use lib.ListN.{length, getD, take, drop}
+use lib.ListN.{getD, take, drop}
 use lib.Dec.{eqb}
 use Rattle.columns.specs.Texts.{bytes, every, same}
+use Rattle.filing.specs.Fields.{at}
+use Rattle.station.specs.Places.{fieldsOf}
+use Rattle.station.specs.Codes.{stationCode}
 use Rattle.header.specs.Codes.{filedHeaderCode}
+use Rattle.files.specs.Files.{stations, recordAt}
 use Rattle.sheet.specs.Counting.{first, count, rows}
-use Rattle.sheet.specs.Files.{stations, recordAt, referenceAt, codeAt}
 
 -- A row has two bytes,
 abbrev pub rowWidth : ℕ
@@ -22,7 +24,15 @@ trailerLength = 8
 abbrev pub sheetLength : ℕ → ℕ
 sheetLength n = rowWidth * n + trailerLength
 
--- A station's twin: the lowest i below k whose 13X bytes equal those of k, else 0; records that break rules count too.
+-- Station k's code,
+unfoldable pub codeAt : List ℕ → ℕ → ℕ
+codeAt file k = stationCode (recordAt file k)
+
+-- its 13X,
+unfoldable pub referenceAt : List ℕ → ℕ → List ℕ
+referenceAt file k = at (fieldsOf (recordAt file k)) 30
+
+-- and its twin: the lowest i below k whose 13X bytes equal those of k, else 0; records that break rules count too.
 unfoldable pub twinAt : List ℕ → ℕ → ℕ
 twinAt file k = first (λ i. same (referenceAt file i) (referenceAt file k)) (k - 1)
 

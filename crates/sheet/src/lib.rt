@@ -1,8 +1,7 @@
-// Files and their verdict sheets.
-use filing::Outcome;
+// Verdict sheets: judged from a file, and mended when a record is replaced.
 
-// How a replacement ended, and how many rows it wrote.
-pub struct Replaced {
-    pub outcome: Outcome,
-    pub rows: usize,
-}
+pub mod judging;
+pub mod replacing;
+mod rows;
+mod trailers;
+mod twins;

@@ -3,11 +3,10 @@ use Prim.Native.Nat.{ℕ, zero, suc, _+_, _-_, _*_, _/_, _%_}
 use mathlib.Core.Bool.{Bool, not, _||_}
 use mathlib.Core.List.{List, _++_}
 use lib.ListN.{length, take, drop}
-use lib.Dec.{leb, ltb, eqb}
-use Rattle.filing.specs.Fields.{recordLength, at}
-use Rattle.station.specs.Places.{fieldsOf}
-use Rattle.station.specs.Codes.{stationCode}
-use Rattle.header.specs.Places.{headerFields}
+use lib.Dec.{ltb, eqb}
+use Rattle.filing.specs.Fields.{recordLength, cut, at}
+use Rattle.station.specs.Places.{stationPlaces}
+use Rattle.header.specs.Places.{headerPlaces}
 
 -- A file has at most 250 stations.
 abbrev pub mostStations : ℕ
@@ -25,23 +24,18 @@ recordAt file k = take recordLength (drop (recordLength * k) file)
 unfoldable pub withRecord : List ℕ → ℕ → List ℕ → List ℕ
 withRecord file k r = take (recordLength * k) file ++ (r ++ drop (recordLength * k + recordLength) file)
 
+-- The places of record number k's fields: fourteen in the header, thirty in a station.
+unfoldable pub placesOf : ℕ → List (ℕ × ℕ)
+placesOf zero = headerPlaces
+placesOf (suc k) = stationPlaces
+
 -- Field number j of record number k.
 unfoldable pub fieldAt : List ℕ → ℕ → ℕ → List ℕ
-fieldAt file zero j = at (headerFields (recordAt file zero)) j
-fieldAt file (suc k) j = at (fieldsOf (recordAt file (suc k))) j
+fieldAt file k j = at (cut (placesOf k) (recordAt file k)) j
 
 -- How many fields record number k has.
 unfoldable pub fieldCount : ℕ → ℕ
-fieldCount zero = 14
-fieldCount (suc k) = 30
-
--- Station k's 13X.
-unfoldable pub referenceAt : List ℕ → ℕ → List ℕ
-referenceAt file k = at (fieldsOf (recordAt file k)) 30
-
--- Station k's code.
-unfoldable pub codeAt : List ℕ → ℕ → ℕ
-codeAt file k = stationCode (recordAt file k)
+fieldCount k = length (placesOf k)
 
 -- Refusal 1: the file is longer than a header and 250 stations, 54,969 bytes.
 unfoldable pub tooLong : List ℕ → Bool

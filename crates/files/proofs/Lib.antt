@@ -1,0 +1,6 @@
+pub mod FileLaws
+pub mod LengthLaws
+pub mod PlaceLaws
+pub mod ReplacedLaws
+pub mod ShowLaws
+pub mod Unique

@@ -1,0 +1,69 @@
+-- How showing ends: what no refusal tells of the record's number and the field's, and what is shown.
+-- Assumes nothing.
+use mathlib.Core.Path.{_≡_, refl, sym, ap, _∙_}
+use mathlib.Core.Bool.{true, false, cond, _||_}
+use mathlib.Core.List.{List, [], _∷_}
+use Prim.Native.Nat.{ℕ, zero, suc, _+_, _-_, _*_, _≤_}
+use native.Mathlib.Omega.{arith}
+use lib.ListN.{length, take, drop}
+use lib.Seq.{take-take, drop-drop}
+use lib.Dec.{ltb, eqb}
+use borrow.Author.Tests.{eqb-false, ltb-false}
+use Rattle.filing.specs.Fields.{placeOf}
+use Rattle.filing.specs.Outcomes.{refusal, ifDone}
+use Rattle.filing.specs.declared.Outcome.{Outcome}
+use Rattle.filing.specs.declared.Outcome.the-variants as outcome
+use Rattle.files.specs.Files.{stations, recordAt, placesOf, fieldAt, fieldCount}
+use Rattle.files.specs.Calls.{numberOutcome, showOutcome, shownField}
+use Rattle.files.proofs.LengthLaws.{done, positive, or-false, answered-no, whole-records}
+use Rattle.files.proofs.PlaceLaws.{places-tile, place-inside, piece-there}
+
+-- a part of the front is a part of the whole
+part-of-part : (m a n : ℕ) (s : List ℕ) → a + m ≤ n → take m (drop a (take n s)) ≡ take m (drop a s)
+part-of-part m zero n s h = take-take m n s (omega arith)
+part-of-part m (suc a) zero s h = absurd (omega arith)
+part-of-part m (suc a) (suc n) [] h = refl
+part-of-part m (suc a) (suc n) (x ∷ s) h = part-of-part m a n s (omega arith)
+
+-- A record that is wholly there, and a field that it has.
+pub record Shown (file : List ℕ) (k j : ℕ) : Type 0 where
+  pub whole : 219 * k + 219 ≤ length file
+  pub positive : 1 ≤ j
+  pub there : j ≤ length (placesOf k)
+
+module _ (file : List ℕ) (k j : ℕ) where
+  -- what showing asks of the field
+  abbrev field-asked : Outcome
+  field-asked = cond (eqb j 0 || ltb (fieldCount k) j) outcome.NoSuchField outcome.Done
+
+  -- Showing that is done has such a record and field,
+  pub shown-there : done (showOutcome file k j) ≡ true → Shown file k j
+  unfolding showOutcome refusal fieldCount
+  shown-there t =
+      let w = whole-records file (numberOutcome file k field-asked) t in
+      let n = answered-no (ltb (stations file) k) outcome.NoSuchRecord field-asked refl (w .2) in
+      let f = answered-no (eqb j 0 || ltb (fieldCount k) j) outcome.NoSuchField outcome.Done refl (n .1) in
+      let o = or-false (eqb j 0) (ltb (fieldCount k) j) (f .0) in
+      let low : k ≤ stations file = ltb-false (stations file) k (n .0) in
+      record { whole = omega (arith, low, w .1); positive = positive j (eqb-false j 0 (o .0)); there = ltb-false (fieldCount k) j (o .1) }
+
+  -- and shows the field;
+  pub shown-field : done (showOutcome file k j) ≡ true → fieldAt file k j ≡ shownField file k j
+  unfolding shownField ifDone
+  shown-field t = sym (rw t)
+
+  -- showing that is refused shows nothing.
+  pub shown-nothing : done (showOutcome file k j) ≡ false → [] ≡ shownField file k j
+  unfolding shownField ifDone
+  shown-nothing f = sym (rw f)
+
+-- Where the field begins in the file, and how long it is: what is shown is what stands there.
+pub shown-at : (file : List ℕ) (k j : ℕ) → Shown file k j
+    → take (placeOf (placesOf k) j .length) (drop (219 * k + (placeOf (placesOf k) j .first - 1)) file) ≡ fieldAt file k j
+unfolding fieldAt recordAt
+shown-at file k j there =
+    let p = placeOf (placesOf k) j in
+    let inside = place-inside (placesOf k) j (there .positive) (there .there) (places-tile k) in
+    let fits : (p .first - 1) + p .length ≤ 219 = omega (arith, inside .0, inside .1) in
+    sym (part-of-part (p .length) (p .first - 1) 219 (drop (219 * k) file) fits ∙ ap (λ (s : List ℕ). take (p .length) s) (drop-drop (p .first - 1) (219 * k) file))
+    ∙ piece-there (placesOf k) j (there .positive) (there .there) (take 219 (drop (219 * k) file))

@@ -1,0 +1,66 @@
+-- `files::showing::show` meets its contract: nothing, or the piece at the field's place. Assumes nothing.
+use denote.Ref.{now}
+use mathlib.Core.Path.{_≡_, ap, _∙_}
+use lib.ListN.{length}
+use Rattle.files.specs.Files.{recordAt, placesOf, fieldAt}
+use Rattle.files.proofs.FileLaws.{record-wide}
+use Rattle.files.proofs.LengthLaws.{went-on, stopped}
+use Rattle.files.proofs.PlaceLaws.{places-tile, place-inside, piece-there}
+use Rattle.files.proofs.ShowLaws.{shown-there, shown-field, shown-nothing}
+use borrow.Author.Needs.{needs}
+use Rattle.files.proofs.showing.show.Statement.{statement}
+use Rattle.files.proofs.showing.show.Tie as tie
+
+show-outcome-requires : tie.Need-show-outcome-requires
+show-outcome-requires c κs = search needs
+
+is-done-requires : tie.Need-is-done-requires
+is-done-requires c κs = search needs
+
+slice-aggregate-result : tie.Need-slice-aggregate-result
+slice-aggregate-result c = search needs
+
+returns : tie.Need-returns
+returns c =
+    let a = c .before .before .before .before .before .args in
+    shown-nothing (now (a .file)) (a .k) (a .j) (stopped (c .before .before .before .show-outcome .ensures) (c .before .before .is-done .ensures) (c .before .if1 .taken))
+
+record-in-requires : tie.Need-record-in-requires
+record-in-requires c κs = search needs
+
+field-place-requires : tie.Need-field-place-requires
+field-place-requires c κs = search needs
+
+field-in-requires : tie.Need-field-in-requires
+field-in-requires c κs =
+    let a = c .before .before .before .before .before .before .args in
+    let file = now (a .file) in
+    let there = shown-there file (a .k) (a .j) (went-on (c .before .before .before .before .show-outcome .ensures) (c .before .before .before .is-done .ensures) (c .before .before .if1 .left)) in
+    let wide : length (now (c .before .record-in .result)) ≡ 219 = ap length (c .before .record-in .ensures) ∙ record-wide file (a .k) (there .whole) in
+    let inside = place-inside (placesOf (a .k)) (a .j) (there .positive) (there .there) (places-tile (a .k)) in
+    let place = c .field-place .ensures in
+    rw (place, wide) inside
+
+returns-2 : tie.Need-returns-2
+unfolding fieldAt
+returns-2 c =
+    let a = c .before .before .before .before .before .before .before .args in
+    let file = now (a .file) in
+    let yes = went-on (c .before .before .before .before .before .show-outcome .ensures) (c .before .before .before .before .is-done .ensures) (c .before .before .before .if1 .left) in
+    let there = shown-there file (a .k) (a .j) yes in
+    c .field-in .ensures
+    ∙ rw (c .before .field-place .ensures, c .before .before .record-in .ensures) (piece-there (placesOf (a .k)) (a .j) (there .positive) (there .there) (recordAt file (a .k)))
+    ∙ shown-field file (a .k) (a .j) yes
+
+pub show-spec : {M : Type 1} → statement M
+show-spec =
+    tie.close
+    (tie.spec
+    show-outcome-requires
+    is-done-requires
+    slice-aggregate-result
+    returns
+    record-in-requires
+    field-place-requires
+    field-in-requires
+    returns-2)

@@ -1,0 +1,34 @@
+-- What the calls on files promise, as relations between what they are given and their answers.
+use Prim.Native.Nat.{ℕ}
+use mathlib.Core.Path.{_≡_}
+use mathlib.Core.List.{List}
+use Rattle.filing.specs.Fields.{placeOf}
+use Rattle.filing.specs.declared.Outcome.{Outcome}
+use Rattle.filing.specs.declared.Outcome.the-variants as outcome
+use Rattle.filing.specs.declared.Place.{Place}
+use Rattle.files.specs.Files.{stations, recordAt, placesOf}
+use Rattle.files.specs.Calls.{fileOutcome, showOutcome, shownField}
+
+-- `check_file`: 1, 2, or done.
+abbrev pub FileChecked : List ℕ → Outcome → Type 0
+FileChecked file answer = answer ≡ fileOutcome file outcome.Done
+
+-- `stations_in`: how many stations the file has.
+abbrev pub StationsCounted : List ℕ → ℕ → Type 0
+StationsCounted file answer = answer ≡ stations file
+
+-- `record_in`: the piece of the file that is record number k.
+abbrev pub RecordFound : List ℕ → ℕ → List ℕ → Type 0
+RecordFound file k answer = answer ≡ recordAt file k
+
+-- `field_place`: where field j stands in record k.
+abbrev pub FieldPlaced : ℕ → ℕ → Place → Type 0
+FieldPlaced k j answer = answer ≡ placeOf (placesOf k) j
+
+-- `show_outcome`: how showing field j of record k ends.
+abbrev pub ShowJudged : List ℕ → ℕ → ℕ → Outcome → Type 0
+ShowJudged file k j answer = answer ≡ showOutcome file k j
+
+-- `show`: the piece of the file that holds it.
+abbrev pub FieldShown : List ℕ → ℕ → ℕ → List ℕ → Type 0
+FieldShown file k j answer = answer ≡ shownField file k j

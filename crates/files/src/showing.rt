@@ -1,0 +1,76 @@
+// Showing: the piece of the file itself that holds a field.
+use crate::lengths::check_file;
+use crate::lengths::record_in;
+use crate::lengths::stations_in;
+use filing::Outcome;
+use filing::Place;
+use filing::outcomes::is_done;
+use header::places::header_place;
+use station::places::station_place;
+ghost use mathlib.Core.Path.{_≡_};
+ghost use mathlib.Core.Bool.{not, _||_};
+ghost use lib.Dec.{ltb, eqb};
+ghost use Prim.Native.Nat.{_+_, _-_, _≤_};
+ghost use lib.ListN.{length, take, drop};
+ghost use Rattle.files.specs.Files.{fieldCount};
+ghost use Rattle.files.specs.Promises.{FieldPlaced, ShowJudged, FieldShown};
+
+// Record number k has a field number j.
+fn has_field(k: usize, j: usize) -> bool
+    ensures { λ r. ⌜ r ≡ not (eqb j 0 || ltb (fieldCount k) j) ⌝ }
+{
+    if j == 0 {
+        return false;
+    }
+    if k == 0 {
+        return j <= 14;
+    }
+    j <= 30
+}
+
+// The place of field j in record k; column 0 and no length where there is no such field.
+pub fn field_place(k: usize, j: usize) -> Place
+    ensures { λ r. ⌜ FieldPlaced k j r ⌝ }
+{
+    if k == 0 {
+        return header_place(j);
+    }
+    station_place(j)
+}
+
+// How showing field j of record k ends: 1, 2, 5, 8, or done.
+pub fn show_outcome(file: &[u8], k: usize, j: usize) -> Outcome
+    ensures { λ r. ⌜ ShowJudged (now (file .entry)) k j r ⌝ }
+{
+    let outcome = check_file(file);
+    if !is_done(outcome) {
+        return outcome;
+    }
+    if k > stations_in(file) {
+        return Outcome::NoSuchRecord;
+    }
+    if !has_field(k, j) {
+        return Outcome::NoSuchField;
+    }
+    Outcome::Done
+}
+
+// Field j of a record that has it.
+fn field_in(rec: &[u8], place: Place) -> &[u8]
+    requires { ⌜ (1 ≤ place .first) × (place .first + place .length ≤ length (now rec) + 1) ⌝ }
+    ensures { λ r. ⌜ now r ≡ take (place .length) (drop (place .first - 1) (now (rec .entry))) ⌝ }
+{
+    let start = place.first - 1;
+    let end = start + place.length;
+    &rec[start..end]
+}
+
+// The piece of the file that holds field j of record k, and an empty one on a refusal; `show_outcome` says which.
+pub fn show(file: &[u8], k: usize, j: usize) -> &[u8]
+    ensures { λ r. ⌜ FieldShown (now (file .entry)) k j (now r) ⌝ }
+{
+    if !is_done(show_outcome(file, k, j)) {
+        return &file[..0];
+    }
+    field_in(record_in(file, k), field_place(k, j))
+}

@@ -1,0 +1,111 @@
+-- Demand 3 over the calls themselves: after any run of replacements the sheet is the one judged afresh, and a replacement writes
+-- only the new record, its own row, later rows that bear its old or new reference, and the trailer. Assumes nothing.
+use mathlib.Core.Path.{_≡_, refl, sym, ap, _∙_}
+use mathlib.Core.Bool.{Bool, true, false}
+use mathlib.Core.List.{List, [], _∷_, _++_}
+use Prim.Native.Nat.{ℕ, suc, _+_, _-_, _*_, _≤_, _<_}
+use native.Mathlib.Omega.{arith}
+use lib.ListN.{length, getD, take}
+use lib.Seq.{take-at, length-take-le, getD-append-add}
+use Rattle.filing.specs.Outcomes.{ifDone}
+use Rattle.files.specs.Files.{stations, recordAt, withRecord}
+use Rattle.files.proofs.LengthLaws.{done}
+use Rattle.files.proofs.ReplacedLaws.{replaced-record, other-record}
+use Rattle.sheet.specs.Counting.{rows}
+use Rattle.sheet.specs.Sheets.{referenceAt, rowIn, headIn, trailer, withTrailer, sheetOf}
+use Rattle.sheet.specs.Replacing.{touched, mendedRow, mendedSheet, rowsWritten}
+use Rattle.sheet.specs.Calls.{replaceOutcome, replacedFile, replacedSheet, replacedRows, afterAll}
+use Rattle.sheet.proofs.CountLaws.{those, count-those}
+use Rattle.sheet.proofs.RowLaws.{length-rows, row-back}
+use Rattle.sheet.proofs.RowsMended.{mended-wide}
+use Rattle.sheet.proofs.CallLaws.{allowed, still-judged}
+
+-- A replacement, refused or not, takes the sheet judged from a file to the sheet judged from the file that it leaves,
+pub replaced-judged : (file : List ℕ) (k : ℕ) (r : List ℕ) → replacedSheet file (sheetOf file) k r ≡ sheetOf (replacedFile file (sheetOf file) k r)
+unfolding replacedSheet replacedFile ifDone
+replaced-judged file k r = by-case (done (replaceOutcome file (sheetOf file) k r)) refl
+  where
+    by-case : (b : Bool) → done (replaceOutcome file (sheetOf file) k r) ≡ b → replacedSheet file (sheetOf file) k r ≡ sheetOf (replacedFile file (sheetOf file) k r)
+    by-case false e = rw e
+    by-case true e =
+        let may = allowed file (sheetOf file) k r e in
+        rw e (still-judged file k r (stations file) (may .sizes .file-size) (may .within) (may .size) refl)
+
+-- and so does any run of them, headers and refused calls among them.
+pub after-any-run : (calls : List (ℕ × List ℕ)) (file sheet : List ℕ) → sheet ≡ sheetOf file → afterAll (file, sheet) calls .1 ≡ sheetOf (afterAll (file, sheet) calls .0)
+unfolding afterAll
+after-any-run [] file sheet e = e
+after-any-run (call ∷ calls) file sheet e = after-any-run calls _ _ (rw e (replaced-judged file (call .0) (call .1)))
+
+-- A refused replacement changes nothing, whatever the sheet.
+module _ (file sheet : List ℕ) (k : ℕ) (r : List ℕ) (refused : done (replaceOutcome file sheet k r) ≡ false) where
+  pub refused-changes-nothing : (replacedFile file sheet k r ≡ file) × (replacedSheet file sheet k r ≡ sheet) × (replacedRows file sheet k r ≡ 0)
+  unfolding replacedFile replacedSheet replacedRows ifDone
+  refused-changes-nothing = (rw refused, rw refused, rw refused)
+
+-- An accepted one, in any sheet, even one judged from another file:
+module _ (file sheet : List ℕ) (k : ℕ) (r : List ℕ) (accepted : done (replaceOutcome file sheet k r) ≡ true) where
+  -- puts in the record,
+  pub new-record : recordAt (replacedFile file sheet k r) k ≡ r
+  unfolding replacedFile ifDone
+  new-record = let may = allowed file sheet k r accepted in rw accepted (replaced-record file k r (omega (arith, may .sizes .file-size, may .within)) (may .size))
+
+  -- keeps every other record,
+  pub other-records : (j : ℕ) → (j ≡ k → ⊥) → j ≤ stations file → recordAt (replacedFile file sheet k r) j ≡ recordAt file j
+  unfolding replacedFile ifDone
+  other-records j ne l =
+      let may = allowed file sheet k r accepted in
+      rw accepted (other-record file k r (omega (arith, may .sizes .file-size, may .within)) (may .size) j ne (omega (arith, may .sizes .file-size, l)))
+
+  mended : replacedSheet file sheet k r ≡ mendedSheet (stations file) file sheet k r
+  unfolding replacedSheet ifDone
+  mended = rw accepted
+
+-- and, where it is a station,
+module _ (file sheet : List ℕ) (k : ℕ) (r : List ℕ) (accepted : done (replaceOutcome file sheet (suc k) r) ≡ true) where
+  -- the rows that it writes: its own, and later ones that bear its old or its new reference
+  abbrev pub written : ℕ → Bool
+  written = touched (withRecord file (suc k) r) (referenceAt file (suc k)) (suc k)
+
+  room : 2 * stations file ≤ length sheet
+  room = let may = allowed file sheet (suc k) r accepted in omega (arith, may .sizes .sheet-size)
+
+  -- keeps every other row,
+  pub other-rows : (i : ℕ) → i < stations file → written (suc i) ≡ false → rowIn (replacedSheet file sheet (suc k) r) (suc i) ≡ rowIn sheet (suc i)
+  unfolding rowIn mendedSheet withTrailer mendedRow
+  other-rows i h w =
+      let n = stations file in
+      let row = mendedRow (withRecord file (suc k) r) (referenceAt file (suc k)) (suc k) sheet in
+      let e : suc i - 1 ≡ i = omega arith in
+      rw (mended file sheet (suc k) r accepted, e)
+      (row-back 2 row n (mended-wide (withRecord file (suc k) r) (referenceAt file (suc k)) (suc k) sheet n room) i (trailer n (headIn sheet n) (rows row n)) h ∙ rw (w, e))
+
+  -- keeps the header's code,
+  pub kept-head : headIn (replacedSheet file sheet (suc k) r) (stations file) ≡ headIn sheet (stations file)
+  unfolding headIn mendedSheet withTrailer trailer
+  kept-head =
+      let n = stations file in
+      let row = mendedRow (withRecord file (suc k) r) (referenceAt file (suc k)) (suc k) sheet in
+      let t = trailer n (getD sheet (2 * n + 3) 0) (rows row n) in
+      rw (mended file sheet (suc k) r accepted)
+      (ap (λ (m : ℕ). getD (rows row n ++ t) (m + 3) 0) (sym (length-rows 2 row n (mended-wide (withRecord file (suc k) r) (referenceAt file (suc k)) (suc k) sheet n room)))
+      ∙ getD-append-add (rows row n) t 3 0)
+
+  -- and answers how many rows it wrote.
+  pub written-rows : replacedRows file sheet (suc k) r ≡ length (those written (stations file))
+  unfolding replacedRows ifDone rowsWritten
+  written-rows = rw accepted (count-those written (stations file))
+
+-- A header writes no row.
+module _ (file sheet r : List ℕ) (accepted : done (replaceOutcome file sheet 0 r) ≡ true) where
+  pub header-keeps-rows : take (2 * stations file) (replacedSheet file sheet 0 r) ≡ take (2 * stations file) sheet
+  unfolding mendedSheet withTrailer
+  header-keeps-rows =
+      let n = stations file in
+      let may = allowed file sheet 0 r accepted in
+      let wide : length (take (2 * n) sheet) ≡ 2 * n = length-take-le (2 * n) sheet (omega (arith, may .sizes .sheet-size)) in
+      rw (mended file sheet 0 r accepted) (take-at (take (2 * n) sheet) _ (2 * n) wide)
+
+  pub header-writes-none : replacedRows file sheet 0 r ≡ 0
+  unfolding replacedRows ifDone rowsWritten
+  header-writes-none = rw accepted

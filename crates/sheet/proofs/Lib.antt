@@ -1,0 +1,10 @@
+pub mod CountLaws
+pub mod RowLaws
+pub mod TwinLaws
+pub mod CodeLaws
+pub mod SheetLaws
+pub mod RowsMended
+pub mod MendLaws
+pub mod CallLaws
+pub mod Demand3
+pub mod Unique

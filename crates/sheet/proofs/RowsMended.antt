@@ -1,0 +1,71 @@
+-- One more row mended, written where it is touched and kept where it is not; and what a replaced station leaves.
+-- Assumes nothing.
+use mathlib.Core.Path.{_≡_, refl, sym, ap, _∙_}
+use mathlib.Core.Bool.{Bool, true, false, cond}
+use mathlib.Core.List.{List, _++_}
+use Prim.Native.Nat.{ℕ, zero, suc, _+_, _-_, _*_, _≤_}
+use native.Mathlib.Omega.{arith}
+use lib.ListN.{length, take, drop, length-drop}
+use lib.Seq.{length-take-le}
+use Rattle.files.specs.Files.{withRecord}
+use Rattle.sheet.specs.Counting.{count, rows}
+use Rattle.sheet.specs.Sheets.{referenceAt, rowOf, rowIn, headIn, withTrailer}
+use Rattle.sheet.specs.Replacing.{touched, mendedRow, mendedSheet, rowsWritten}
+use Rattle.sheet.proofs.RowLaws.{Wide, take-rows, row-put, row-kept}
+use Rattle.sheet.proofs.SheetLaws.{rows-wide}
+
+module _ (file old : List ℕ) (k : ℕ) (sheet : List ℕ) where
+  -- The rows of a mended sheet have their width.
+  pub mended-wide : (n : ℕ) → 2 * n ≤ length sheet → Wide 2 (mendedRow file old k sheet) n
+  unfolding mendedRow rowIn
+  mended-wide n room i h = by-case (touched file old k (suc i))
+    where
+      by-case : (b : Bool) → length (cond b (rowOf file (suc i)) (take 2 (drop (2 * (suc i - 1)) sheet))) ≡ 2
+      by-case true = rows-wide file n i h
+      by-case false = length-take-le 2 (drop (2 * (suc i - 1)) sheet) (rw length-drop (omega arith))
+
+  -- a touched row has its value for the file
+  mended-so : (j : ℕ) → touched file old k j ≡ true → mendedRow file old k sheet j ≡ rowOf file j
+  unfolding mendedRow
+  mended-so j hit = rw hit
+
+  module _ (i : ℕ) (room : 2 * i + 2 ≤ length sheet) where
+    -- a row that is touched and written,
+    pub mended-hit : (now : List ℕ) → touched file old k (i + 1) ≡ true → now ≡ rows (mendedRow file old k sheet) i ++ drop (2 * i) sheet
+        → take (2 * i) now ++ (rowOf file (i + 1) ++ drop (2 * i + 2) now) ≡ rows (mendedRow file old k sheet) (i + 1) ++ drop (2 * (i + 1)) sheet
+    mended-hit now hit e =
+        ap (λ (t : List ℕ). take (2 * i) now ++ (t ++ drop (2 * i + 2) now)) (sym (mended-so (i + 1) hit))
+        ∙ row-put 2 (mendedRow file old k sheet) sheet i (mended-wide i (omega arith)) now e
+
+    -- and one that is not, and kept
+    pub mended-miss : touched file old k (i + 1) ≡ false
+        → rows (mendedRow file old k sheet) i ++ drop (2 * i) sheet ≡ rows (mendedRow file old k sheet) (i + 1) ++ drop (2 * (i + 1)) sheet
+    unfolding mendedRow rowIn
+    mended-miss miss = let e : i + 1 - 1 ≡ i = omega arith in row-kept 2 (mendedRow file old k sheet) sheet i (rw (miss, e))
+
+-- what holds of each successor holds of each number that is not 0
+by-suc : (P : ℕ → Type 0) → ((j : ℕ) → P (suc j)) → (k : ℕ) → 1 ≤ k → P k
+by-suc P h zero l = absurd (omega arith)
+by-suc P h (suc k) l = h k
+
+-- A station's replacement, from what the steps leave: the new file, the old reference, the rows that stand.
+module _ (file sheet : List ℕ) (k : ℕ) (r : List ℕ) (n : ℕ) where
+  -- what is said of a station is said of every number but 0
+  written-so : 1 ≤ k → rowsWritten n file k r ≡ count (touched (withRecord file k r) (referenceAt file k) k) n
+  unfolding rowsWritten
+  written-so h = by-suc (λ (k : ℕ). rowsWritten n file k r ≡ count (touched (withRecord file k r) (referenceAt file k) k) n) (λ j. refl) k h
+
+  mended-station : 1 ≤ k → mendedSheet n file sheet k r ≡ withTrailer n (headIn sheet n) (rows (mendedRow (withRecord file k r) (referenceAt file k) k sheet) n)
+  unfolding mendedSheet
+  mended-station h =
+      by-suc (λ (k : ℕ). mendedSheet n file sheet k r ≡ withTrailer n (headIn sheet n) (rows (mendedRow (withRecord file k r) (referenceAt file k) k sheet) n))
+      (λ j. refl) k h
+
+  module _ (h : 1 ≤ k) {file′ old : List ℕ} (ef : file′ ≡ withRecord file k r) (eo : old ≡ referenceAt file k) where
+    pub station-rows : count (touched file′ old k) n ≡ rowsWritten n file k r
+    station-rows = rw (ef, eo) (sym (written-so h))
+
+    pub station-sheet : 2 * n ≤ length sheet → {sheet′ : List ℕ} → sheet′ ≡ rows (mendedRow file′ old k sheet) n ++ drop (2 * n) sheet
+        → withTrailer n (headIn sheet n) (take (2 * n) sheet′) ≡ mendedSheet n file sheet k r
+    station-sheet room es =
+        rw (es, take-rows 2 (mendedRow file′ old k sheet) n (mended-wide file′ old k sheet n room) (drop (2 * n) sheet), ef, eo) (sym (mended-station h))

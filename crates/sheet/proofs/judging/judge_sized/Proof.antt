@@ -1,0 +1,52 @@
+-- `sheet::judging::judge_sized` meets its contract: rows, then trailer. Assumes nothing.
+use denote.Ref.{now}
+use mathlib.Core.Path.{_≡_, ap, _∙_}
+use mathlib.Core.List.{List}
+use Prim.Native.Nat.{ℕ, _*_}
+use lib.ListN.{length, drop}
+use Rattle.header.specs.Codes.{filedHeaderCode}
+use Rattle.files.specs.Files.{recordAt}
+use Rattle.files.proofs.FileLaws.{record-wide}
+use Rattle.sheet.specs.Sheets.{rowOf, judgedSheet}
+use Rattle.sheet.proofs.RowLaws.{take-rows}
+use Rattle.sheet.proofs.SheetLaws.{rows-wide}
+use native.Mathlib.Omega.{arith}
+use borrow.Author.Needs.{needs}
+use Rattle.sheet.proofs.judging.judge_sized.Statement.{statement}
+use Rattle.sheet.proofs.judging.judge_sized.Tie as tie
+
+put-rows-requires : tie.Need-put-rows-requires
+put-rows-requires c κs = search needs
+
+record-in-requires : tie.Need-record-in-requires
+record-in-requires c κs = search needs
+
+header-code-requires : tie.Need-header-code-requires
+header-code-requires c κs = ap length (c .record-in .ensures) ∙ record-wide (now (c .before .before .before .before .before .before .before .args .file)) 0 (omega arith)
+
+put-trailer-requires : tie.Need-put-trailer-requires
+put-trailer-requires c κs = search needs
+
+same-length : tie.Need-same-length
+same-length c = search needs
+
+returns : tie.Need-returns
+unfolding judgedSheet
+returns c =
+    let a = c .before .before .before .before .before .before .before .before .before .before .before .before .args in
+    let file = now (a .file) in
+    let head : c .before .before .before .before .header-code .result ≡ filedHeaderCode (recordAt file 0) (a .n) =
+    c .before .before .before .before .header-code .ensures ∙ ap (λ (r : List ℕ). filedHeaderCode r (a .n)) (c .before .before .before .before .before .record-in .ensures) in
+    c .before .before .put-trailer .ensures
+    ∙ rw (c .before .before .before .before .before .before .before .before .put-rows .ensures, head, take-rows 2 (rowOf file) (a .n) (rows-wide file (a .n)) (drop (2 * a .n) (now (a .sheet))))
+
+pub judge-sized-spec : {M : Type 1} → statement M
+judge-sized-spec =
+    tie.close
+    (tie.spec
+    put-rows-requires
+    record-in-requires
+    header-code-requires
+    put-trailer-requires
+    same-length
+    returns)

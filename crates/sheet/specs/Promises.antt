@@ -1,0 +1,33 @@
+-- What the calls on sheets promise, as relations between what they are given, their answers and what they leave in the lent bytes.
+use Prim.Native.Nat.{ℕ, _+_, _*_, _≤_}
+use mathlib.Core.Path.{_≡_}
+use mathlib.Core.List.{List}
+use lib.ListN.{length}
+use Rattle.filing.specs.declared.Outcome.{Outcome}
+use Rattle.filing.specs.Fields.{recordLength}
+use Rattle.files.specs.Files.{mostStations}
+use Rattle.sheet.specs.Sheets.{sheetLength, sheetOf}
+use Rattle.sheet.specs.Calls.{judgeOutcome, judgedInto, replaceOutcome, replacedFile, replacedSheet, replacedRows}
+use Rattle.sheet.specs.declared.replacing.Replaced.{Replaced}
+
+-- `judge`: done or its refusal, and the sheet that it leaves.
+abbrev pub SheetJudged : List ℕ → List ℕ → Outcome → List ℕ → Type 0
+SheetJudged file sheet answer after = (answer ≡ judgeOutcome file sheet) × (after ≡ judgedInto file sheet)
+
+-- `replace`: how it ends, how many rows it wrote, and the file and the sheet that it leaves.
+abbrev pub RecordReplaced : List ℕ → List ℕ → ℕ → List ℕ → Replaced → List ℕ → List ℕ → Type 0
+RecordReplaced file sheet k r answer file′ sheet′ =
+    (answer .outcome ≡ replaceOutcome file sheet k r)
+    × (answer .rows ≡ replacedRows file sheet k r)
+    × (file′ ≡ replacedFile file sheet k r)
+    × (sheet′ ≡ replacedSheet file sheet k r)
+
+-- A sheet that was the one judged from its file is so again.
+abbrev pub StillJudged : List ℕ → List ℕ → List ℕ → List ℕ → Type 0
+StillJudged file sheet file′ sheet′ = sheet ≡ sheetOf file → sheet′ ≡ sheetOf file′
+
+-- What the calls ask of the bytes inside: a file of n stations, and a sheet for them.
+pub record Sized (file sheet : List ℕ) (n : ℕ) : Type 0 where
+  pub most : n ≤ mostStations
+  pub file-size : length file ≡ recordLength * n + recordLength
+  pub sheet-size : length sheet ≡ sheetLength n

@@ -1,0 +1,77 @@
+// Judging: the whole sheet of a file.
+use crate::rows::put_row;
+use crate::trailers::put_trailer;
+use files::lengths::check_file;
+use files::lengths::record_in;
+use files::lengths::stations_in;
+use filing::Outcome;
+use filing::outcomes::code_with;
+use filing::outcomes::is_done;
+use header::judging::check_filed_header;
+ghost use mathlib.Core.Path.{_≡_};
+ghost use mathlib.Core.List.{_++_};
+ghost use Prim.Native.Nat.{_*_};
+ghost use lib.ListN.{length, drop};
+ghost use Rattle.header.specs.Codes.{filedHeaderCode};
+ghost use Rattle.sheet.specs.Counting.{rows};
+ghost use Rattle.sheet.specs.Sheets.{rowOf, judgedSheet};
+ghost use Rattle.sheet.specs.Calls.{judgeOutcome};
+ghost use Rattle.sheet.specs.Promises.{SheetJudged, Sized};
+
+// The code of a header in a file of n stations.
+pub(crate) fn header_code(rec: &[u8], n: usize) -> u8
+    requires { ⌜ length (now rec) ≡ 219 ⌝ }
+    ensures { λ r. ⌜ r ≡ filedHeaderCode (now (rec .entry)) n ⌝ }
+{
+    code_with(check_filed_header(rec, n))
+}
+
+// Writes the rows of all n stations.
+fn put_rows(file: &[u8], sheet: &mut [u8], n: usize)
+    requires { ⌜ Sized (now file) (now sheet) n ⌝ }
+    ensures { λ _. ⌜ now (sheet .exit) ≡ rows (rowOf (now (file .entry))) n ++ drop (2 * n) (now (sheet .entry)) ⌝ }
+{
+    let mut i = 0;
+    while i < n {
+        put_row(sheet, file, i);
+        i += 1;
+    }
+}
+
+// Writes the sheet of a file of n stations.
+fn judge_sized(file: &[u8], sheet: &mut [u8], n: usize)
+    requires { ⌜ Sized (now file) (now sheet) n ⌝ }
+    ensures { λ _. ⌜ now (sheet .exit) ≡ judgedSheet (now (file .entry)) n ⌝ }
+{
+    put_rows(file, sheet, n);
+    let head = header_code(record_in(file, 0), n);
+    put_trailer(sheet, n, head);
+}
+
+// How judging ends: 1, 2, 3, or done.
+pub(crate) fn judge_outcome(file: &[u8], sheet: &[u8]) -> Outcome
+    ensures { λ r. ⌜ r ≡ judgeOutcome (now (file .entry)) (now (sheet .entry)) ⌝ }
+{
+    let length = check_file(file);
+    if !is_done(length) {
+        return length;
+    }
+    let n = stations_in(file);
+    if sheet.len() != 2 * n + 8 {
+        return Outcome::SheetLength;
+    }
+    Outcome::Done
+}
+
+// Judges a file into the lent sheet; a refusal leaves every byte as it was.
+pub fn judge(file: &[u8], sheet: &mut [u8]) -> Outcome
+    ensures { λ r. ⌜ SheetJudged (now (file .entry)) (now (sheet .entry)) r (now (sheet .exit)) ⌝ }
+{
+    let outcome = judge_outcome(file, sheet);
+    if !is_done(outcome) {
+        return outcome;
+    }
+    let n = stations_in(file);
+    judge_sized(file, sheet, n);
+    Outcome::Done
+}
