@@ -1,0 +1,213 @@
+#!/usr/bin/env python3
+"""Makes the desk's cases: tests/desk/NAME.in, a file as it comes in, and tests/desk/NAME.out, what must be printed of it.
+Also crates/desk/stdin and stdout: the two-station file of the paper and its three lines.
+
+Nothing here reads a record or judges one. Each record is built from good fields with one of them damaged, and beside each
+damage stands, by hand, the code that the paper's table gives it. A twin is known from whose 13X a station was given.
+
+usage: desk_cases.py     from the repository's root
+"""
+import os
+
+# Station S of the paper, its fields in the order of their columns.
+STATION = {
+    "1A": "  938.2    ", "1A unit": "M", "1Z": "2", "6A": "FB", "6B": "CP", "6Z": "L ", "10Z": "1", "2C": "01032021",
+    "4A": "1010_MUSTER         ", "4B": "AUT", "4C": "016E220548N1200", "4D": "    0", "4Z": " 180", "7A": "5M00G7W  ",
+    "8B1": "  30.0", "8B2": "E", "9A": "120.0", "9B": " -2.0", "9D": "V ", "9G": "17.0", "9Y": "  30", "9XH": "000ND00",
+    "9XV": "000ND00", "1Y": "  893.2    ", "1Y unit": "M", "13Z": " " * 50, "13Y": "B", "2W": " " * 8, "2Z": " " * 8,
+    "13X": "AUT2311AB01A001",
+}
+
+# A valid header, its fields in the order of their columns; the count is put in by the case.
+HEADER = {
+    "number": " 1", "content": "QUARTERLY FILING".ljust(80), "letter": "O", "country": "AUT",
+    "e-mail": "filing_desk@example.org".ljust(40), "telephone": "+43 1 5550100".ljust(20), "fax": " " * 20,
+    "person": "MUSTER, A.".ljust(20), "count": "     0", "date": "01032021", "to": "AUT", "reference": " " * 6,
+    "version": "1.0", "reserve": " " * 7,
+}
+
+# What breaks each rule of the stations' table: the code, and the fields that are changed.
+BROKEN = {
+    1: {"1A": "  938,2    "},
+    2: {"1A unit": "X"},
+    3: {"1Z": "9"},
+    4: {"6A": "XX"},
+    5: {"6B": "XX"},
+    6: {"6Z": "J "},
+    7: {"10Z": "2"},
+    8: {"2C": "01132021"},
+    9: {"4A": "1010-MUSTER         "},
+    10: {"4B": "A T"},
+    11: {"4C": "016E600548N1200"},
+    12: {"4D": "     "},
+    13: {"4Z": "180 "},
+    14: {"7A": "0M00G7W  "},
+    15: {"8B1": "- 5.0 "},
+    16: {"8B2": "X"},
+    17: {"9A": "360.0"},
+    18: {"9B": "-90.1"},
+    19: {"9D": " H"},
+    20: {"9G": "+7.0"},
+    21: {"9Y": "    "},
+    22: {"9XH": "000nd00"},
+    23: {"9XV": "00AND00"},
+    24: {"1Y": "    0.0    "},
+    25: {"1Y unit": " "},
+    26: {"13Z": "6" + " " * 49},
+    27: {"13Y": "A"},
+    28: {"2W": "01011900"},
+    29: {"2Z": " 1012021"},
+    30: {"13X": "AUT2311ab01A001"},
+    31: {"1A": " " * 11, "1A unit": " ", "1Y": " " * 11, "1Y unit": " "},
+    32: {"1A": " " * 11, "1A unit": " "},
+    33: {"4D": "    5"},
+    34: {"6A": "ML"},
+    35: {"9A": " " * 5, "9XH": "010AB05"},
+    36: {"9B": " " * 5, "9XV": "010AB05"},
+    37: {"6A": "ML", "9A": " " * 5},
+    38: {"9G": " " * 4},
+    39: {"6A": "FL"},
+}
+
+# Stations that break no rule, each other than S in some way.
+GOOD = [
+    {},
+    {"8B1": "  -5.0", "9A": "359.9", "9B": "-90.0"},
+    {"6A": "ML", "4D": "   25", "9A": " " * 5, "4Z": " " * 4},
+    {"6A": "FL", "4A": "1010_MUSTER_R       "},
+    {"1A": " " * 11, "1A unit": " ", "8B1": " " * 6},
+    {"1Y": " " * 11, "1Y unit": " ", "9G": " " * 4},
+    {"2C": " " * 8, "2W": "01011901", "2Z": "31129999", "4C": "180W000000S0000"},
+]
+
+# What breaks each rule of the header: the code, and the field that is changed.
+BROKEN_HEADER = {
+    1: {"number": "1 "},
+    2: {"content": " QUARTERLY FILING".ljust(80)},
+    3: {"letter": "0"},
+    4: {"country": "aut"},
+    5: {"e-mail": "filing[desk]".ljust(40)},
+    6: {"telephone": "+43_1".ljust(20)},
+    7: {"fax": "\t".ljust(20)},
+    8: {"person": "a@b".ljust(20)},
+    9: {"count": "0     "},
+    10: {"date": " " * 8},
+    11: {"to": "   "},
+    12: {"reference": "12345 "},
+    13: {"version": "1,0"},
+    14: {"reserve": "      0"},
+    15: {"count": "     1"},
+}
+
+
+def record(fields, changes):
+    assert set(changes) <= set(fields)
+    parts = [changes.get(name, text) for name, text in fields.items()]
+    assert [len(p) for p in parts] == [len(t) for t in fields.values()]
+    made = "".join(parts).encode("ascii")
+    assert len(made) == 219
+    return made
+
+
+def header(n, changes=None):
+    return record(HEADER, {"count": "%6d" % n, **(changes or {})})
+
+
+def reference(owner, code):
+    """The 13X of station number `owner`; one that breaks rule 30 has its letters in lower case."""
+    return ("AUT2311ab01A%03d" if code == 30 else "AUT2311AB01A%03d") % owner
+
+
+def station(k, code=0, owner=None, good=0):
+    """Station k with its code, its 13X taken from station `owner` or its own: the record, and its code and twin."""
+    owner = owner or k
+    changes = dict(BROKEN[code] if code else GOOD[good])
+    changes["13X"] = reference(owner, code)
+    return record(STATION, changes), code, owner if owner < k else 0
+
+
+def report(head, rows):
+    lines = ["header %d" % head]
+    bad = 0
+    for k, (code, twin) in enumerate(rows, 1):
+        if code or twin:
+            bad += 1
+            lines.append("station %d code %d twin %d" % (k, code, twin))
+    lines.append("stations %d bad %d" % (len(rows), bad))
+    return "".join(line + "\n" for line in lines)
+
+
+def filing(stations, head=0, count=None):
+    """A file of these stations and what is printed of it."""
+    changes = {name: text for name, text in BROKEN_HEADER.get(head, {}).items() if name != "count" or count is None}
+    first = header(len(stations) if count is None else count, changes)
+    return first + b"".join(r for r, _, _ in stations), report(head, [(c, t) for _, c, t in stations])
+
+
+def full():
+    """250 stations: each code once, twins of good and of broken stations, and good ones between."""
+    made = [station(k, code=k) for k in range(1, 40)]                       # 1 to 39: each code
+    made += [station(40 + i, good=i) for i in range(len(GOOD))]              # 40 to 46: good, each in its way
+    made += [station(47, owner=40), station(48, owner=40)]                   # two twins of one good station
+    made += [station(49, owner=5), station(50, code=12, owner=5)]            # twins of a broken one, good and broken
+    made += [station(51, code=30, owner=30)]                                 # a twin by a 13X that itself breaks its rule
+    while len(made) < 99:
+        made.append(station(len(made) + 1, good=len(made) % len(GOOD)))
+    made += [station(100), station(101, code=39), station(102)]
+    while len(made) < 250:
+        k = len(made) + 1
+        turn = k % 5
+        if turn == 0:
+            made.append(station(k, code=k % 29 + 1))                         # broken
+        elif turn == 1:
+            made.append(station(k, owner=100 + k % 3))                       # a twin with three digits
+        elif turn == 2:
+            made.append(station(k, code=31 + k % 9, owner=9))                # broken, and a twin
+        else:
+            made.append(station(k, good=k % len(GOOD)))                      # good
+    return made
+
+
+def cases():
+    twice = [station(1), station(2, owner=1)]
+    yield "two_stations", *filing(twice)
+    yield "header_alone", *filing([])
+    yield "count_of_another_file", *filing(twice, head=15, count=3)
+    for code in BROKEN_HEADER:
+        yield "header_code_%02d" % code, *filing([], head=code)
+    yield "header_and_stations_broken", *filing([station(1, code=17), station(2), station(3, code=30)], head=3)
+    whole, lines = filing(full())
+    assert len(whole) == 54969
+    yield "full", whole, lines
+    yield "full_and_good", *filing([station(k, good=k % len(GOOD)) for k in range(1, 251)])
+    yield "full_and_bad", *filing([station(k, code=39 - k % 9, owner=k if k < 128 else 127) for k in range(1, 251)])
+    yield "empty", b"", "refused 2\n"
+    yield "one_byte", b"0", "refused 2\n"
+    yield "bytes_218", header(0)[:218], "refused 2\n"
+    yield "bytes_220", header(0) + b" ", "refused 2\n"
+    yield "line_feed_at_the_end", filing(twice)[0] + b"\n", "refused 2\n"
+    yield "bytes_54968", whole[:54968], "refused 2\n"
+    yield "bytes_54970", whole + b" ", "refused 1\n"
+    yield "stations_251", header(251) + b"".join(station(k)[0] for k in range(1, 252)), "refused 1\n"
+
+
+def write(path, content):
+    with open(path, "wb") as f:
+        f.write(content if isinstance(content, bytes) else content.encode("ascii"))
+
+
+def main():
+    os.makedirs("tests/desk", exist_ok=True)
+    names = 0
+    for name, given, wanted in cases():
+        write("tests/desk/%s.in" % name, given)
+        write("tests/desk/%s.out" % name, wanted)
+        if name == "two_stations":
+            write("crates/desk/stdin", given)
+            write("crates/desk/stdout", wanted)
+        names += 1
+    print(names, "cases")
+
+
+if __name__ == "__main__":
+    main()
