@@ -1,0 +1,5 @@
+pub mod EndingLaws
+pub mod RespellLaws
+pub mod ChangeLaws
+pub mod Unique
+pub mod ShownLaws

@@ -1,0 +1,4 @@
+pub mod Endings
+pub mod Records
+pub mod Filings
+pub mod Promises

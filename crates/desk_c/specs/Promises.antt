@@ -1,0 +1,81 @@
+-- What the calls for C promise, as relations between what they are given, their answer and what they leave in
+-- every lent byte.
+use Prim.Native.Nat.{ℕ}
+use mathlib.Core.Path.{_≡_}
+use mathlib.Core.List.{List}
+use lib.IntN.{ℤ}
+use Rattle.filing.specs.Outcomes.{refusal, ifDone}
+use Rattle.station.specs.Calls.{readOutcome, writeOutcome, writtenStation}
+use Rattle.station.specs.Setting.{withPower, withAzimuth, withElevation, withHeight, withGround}
+use Rattle.station.specs.declared.Station.{Station}
+use Rattle.station.specs.declared.setting.Settled.{Settled}
+use Rattle.reading.specs.declared.typed.ReadStation.{ReadStation}
+use Rattle.header.specs.Calls.{readHeaderOutcome}
+use Rattle.files.specs.Calls.{showOutcome}
+use Rattle.sheet.specs.Calls.{judgeOutcome, judgedInto, replaceOutcome, replacedFile, replacedSheet, replacedRows}
+use Rattle.desk_c.specs.Filings.{shownOffset, shownLength}
+use Rattle.desk_c.specs.Endings.{firstRefusal, Answered, Ended}
+use Rattle.desk_c.specs.Records.{respellOutcome, respelledStation, respellHeaderOutcome, respelledHeader, changeOutcome, changedRecord, tenthsStated, heightStated}
+
+-- `desk_station_code` on a record.
+abbrev pub StationCoded : List ℕ → ℕ → ℕ → Type 0
+StationCoded r answer code = Answered (readOutcome r) answer code
+
+-- `desk_header_code` on a record.
+abbrev pub HeaderCoded : List ℕ → ℕ → ℕ → Type 0
+HeaderCoded r answer code = Answered (readHeaderOutcome r) answer code
+
+-- `desk_respell_station` of a record into a buffer.
+abbrev pub StationRespelled : List ℕ → List ℕ → ℕ → List ℕ → ℕ → Type 0
+StationRespelled r before answer after code = Ended (respellOutcome r before) (respelledStation r before) answer after code
+
+-- `desk_respell_header` of a record into a buffer.
+abbrev pub HeaderRespelled : List ℕ → List ℕ → ℕ → List ℕ → ℕ → Type 0
+HeaderRespelled r before answer after code = Ended (respellHeaderOutcome r before) (respelledHeader r before) answer after code
+
+-- A station read from a record, then set, then written back: each only where nothing was refused before.
+abbrev pub RecordSettled : ReadStation → Settled → List ℕ → ℕ → List ℕ → ℕ → Type 0
+RecordSettled read settled before answer after code =
+    let refused = firstRefusal (read .outcome) (settled .outcome) in
+    Ended (firstRefusal refused (writeOutcome (settled .station) before)) (ifDone refused (writtenStation (settled .station) before) before) answer after code
+
+-- A change to the station that a record says.
+abbrev pub RecordChanged : (Station → Station) → List ℕ → ℕ → List ℕ → ℕ → Type 0
+RecordChanged change before answer after code = Ended (changeOutcome change before) (changedRecord change before) answer after code
+
+-- `desk_set_power`, 8B1
+abbrev pub PowerChanged : ℕ → ℤ → List ℕ → ℕ → List ℕ → ℕ → Type 0
+PowerChanged filled v before answer after code = RecordChanged (λ s. withPower s (tenthsStated filled v)) before answer after code
+
+-- `desk_set_azimuth`, 9A
+abbrev pub AzimuthChanged : ℕ → ℤ → List ℕ → ℕ → List ℕ → ℕ → Type 0
+AzimuthChanged filled v before answer after code = RecordChanged (λ s. withAzimuth s (tenthsStated filled v)) before answer after code
+
+-- `desk_set_elevation`, 9B
+abbrev pub ElevationChanged : ℕ → ℤ → List ℕ → ℕ → List ℕ → ℕ → Type 0
+ElevationChanged filled v before answer after code = RecordChanged (λ s. withElevation s (tenthsStated filled v)) before answer after code
+
+-- `desk_set_height`, 4Z
+abbrev pub HeightChanged : ℕ → ℤ → List ℕ → ℕ → List ℕ → ℕ → Type 0
+HeightChanged filled v before answer after code = RecordChanged (λ s. withHeight s (heightStated filled v)) before answer after code
+
+-- `desk_set_ground`, 9Y
+abbrev pub GroundChanged : ℤ → List ℕ → ℕ → List ℕ → ℕ → Type 0
+GroundChanged v before answer after code = RecordChanged (λ s. withGround s (record { 0 = v })) before answer after code
+
+-- `desk_judge` of a file into a sheet.
+abbrev pub FilingJudged : List ℕ → List ℕ → ℕ → List ℕ → Type 0
+FilingJudged file sheet answer after = (answer ≡ refusal (judgeOutcome file sheet)) × (after ≡ judgedInto file sheet)
+
+-- `desk_replace` of number k in a file and its sheet.
+abbrev pub FilingReplaced : List ℕ → List ℕ → ℕ → List ℕ → ℕ → List ℕ → List ℕ → ℕ → Type 0
+FilingReplaced file sheet k r answer file′ sheet′ rows =
+    (answer ≡ refusal (replaceOutcome file sheet k r))
+    × (file′ ≡ replacedFile file sheet k r)
+    × (sheet′ ≡ replacedSheet file sheet k r)
+    × (rows ≡ replacedRows file sheet k r)
+
+-- `desk_show` of field j of record k.
+abbrev pub FieldLocated : List ℕ → ℕ → ℕ → ℕ → ℕ → ℕ → Type 0
+FieldLocated file k j answer offset length =
+    (answer ≡ refusal (showOutcome file k j)) × (offset ≡ shownOffset file k j) × (length ≡ shownLength file k j)

@@ -1,0 +1,136 @@
+/*
+ * desk.h - filing files: read, judged, replaced, shown and set.
+ *
+ * A filing file is one header and n stations, 0 <= n <= 250, each a record of 219 bytes, with
+ * nothing between them. Its sheet has 2n + 8 bytes: for each station its code and its twin, then
+ * the trailer: distance from the sheet's end back to its first row (two bytes, high first),
+ * width 2, header code, lowest bad row or 0, number of bad rows, "2A".
+ *
+ * Every function returns the number of its refusal, DESK_DONE (0) if there is none. Where more
+ * than one refusal applies the lowest number is given, unless the function says otherwise. A
+ * refused call changes no lent byte. The answers behind `code`, `rows`, `offset` and `length`
+ * are always written; `code` is 0 with any refusal but DESK_REFUSED_RULE (9).
+ *
+ * Each pointer and the length after it are one lent slice. No pointer may be NULL, even where the
+ * length is 0, and no two slices of a call may overlap. No pointer is kept after the call, and
+ * calls share no state.
+ */
+#ifndef DESK_H
+#define DESK_H
+
+#include <stddef.h>
+#include <stdint.h>
+
+#ifdef __cplusplus
+extern "C" {
+#endif
+
+/* Lengths in bytes, and the most stations that a file holds. */
+#define DESK_RECORD_LENGTH 219u
+#define DESK_MAX_STATIONS 250u
+#define DESK_MAX_FILE_LENGTH 54969u
+#define DESK_SHEET_LENGTH(stations) (2u * (stations) + 8u)
+
+/* The numbers of the refusals. */
+enum desk_refusal {
+    DESK_DONE = 0,                       /* not refused */
+    DESK_REFUSED_FILE_TOO_LONG = 1,      /* the file is longer than 54,969 bytes */
+    DESK_REFUSED_FILE_LENGTH = 2,        /* the file's length is zero or no multiple of 219 */
+    DESK_REFUSED_SHEET_LENGTH = 3,       /* the lent sheet is not exactly 2n + 8 bytes */
+    DESK_REFUSED_SHEET_TRAILER = 4,      /* the trailer lacks "2A", width 2 or distance 2n + 8 */
+    DESK_REFUSED_NUMBER = 5,             /* the record number is above n (0 is the header) */
+    DESK_REFUSED_RECORD_LENGTH = 6,      /* the record offered is not 219 bytes */
+    DESK_REFUSED_BUFFER_LENGTH = 7,      /* the buffer to write into is not 219 bytes */
+    DESK_REFUSED_FIELD = 8,              /* stations have fields 1 to 30, the header 1 to 14 */
+    DESK_REFUSED_RULE = 9                /* a record or value breaks a rule; its code comes too */
+};
+
+/*
+ * Judges a file and fills its sheet.
+ * Refusals: 1, 2, 3.
+ */
+uint8_t desk_judge(const uint8_t *file, size_t file_length,
+                   uint8_t *sheet, size_t sheet_length);
+
+/*
+ * Puts a record into the file as number `number`, 0 being the header, and mends the sheet: row
+ * `number` and every later row whose 13X equals the old or the new one are written, the trailer
+ * follows. Records that break rules are put in as well. `rows` is the number of rows written, 0
+ * for the header and on a refusal.
+ * Refusals: 1 to 6.
+ */
+uint8_t desk_replace(uint8_t *file, size_t file_length,
+                     uint8_t *sheet, size_t sheet_length,
+                     size_t number,
+                     const uint8_t *record, size_t record_length,
+                     size_t *rows);
+
+/*
+ * Finds field `field` of record `number`, 0 being the header, in the file: its first byte stands
+ * at `offset` from the file's start and it has `length` bytes. Both are 0 on a refusal.
+ * Refusals: 1, 2, 5, 8.
+ */
+uint8_t desk_show(const uint8_t *file, size_t file_length,
+                  size_t number, size_t field,
+                  size_t *offset, size_t *length);
+
+/*
+ * Judges one record as a station; `code` is that of its first broken rule, 1 to 39.
+ * Refusals: 6, 9.
+ */
+uint8_t desk_station_code(const uint8_t *record, size_t record_length, uint8_t *code);
+
+/*
+ * Judges one record as a header; `code` is that of its first broken rule, 1 to 14.
+ * Refusals: 6, 9.
+ */
+uint8_t desk_header_code(const uint8_t *record, size_t record_length, uint8_t *code);
+
+/*
+ * Reads a station and writes it into `out` in the one spelling.
+ * Refusals: 6 (record), 7 (out), 9.
+ */
+uint8_t desk_respell_station(const uint8_t *record, size_t record_length,
+                             uint8_t *out, size_t out_length, uint8_t *code);
+
+/*
+ * Reads a header and writes it into `out` in the one spelling.
+ * Refusals: 6 (record), 7 (out), 9.
+ */
+uint8_t desk_respell_header(const uint8_t *record, size_t record_length,
+                            uint8_t *out, size_t out_length, uint8_t *code);
+
+/*
+ * The setters read the station of a record, change one value and write the station back into the
+ * same record in the one spelling. With `filled` 0 the value becomes blank and the number is not
+ * looked at; with any other `filled` it becomes the number. A record that breaks rules is refused
+ * with its own first code, even where the new value would mend it; otherwise `code` is that of
+ * the first rule that the changed station breaks.
+ * Refusals: 6, 9.
+ */
+
+/* Sets the power 8B1, in tenths of dBW. */
+uint8_t desk_set_power(uint8_t *record, size_t record_length,
+                       uint8_t filled, int64_t tenths, uint8_t *code);
+
+/* Sets the azimuth 9A, in tenths of a degree. */
+uint8_t desk_set_azimuth(uint8_t *record, size_t record_length,
+                         uint8_t filled, int64_t tenths, uint8_t *code);
+
+/* Sets the elevation 9B, in tenths of a degree. */
+uint8_t desk_set_elevation(uint8_t *record, size_t record_length,
+                           uint8_t filled, int64_t tenths, uint8_t *code);
+
+/* Sets the height above sea 4Z, in metres. */
+uint8_t desk_set_height(uint8_t *record, size_t record_length,
+                        uint8_t filled, int64_t metres, uint8_t *code);
+
+/* Sets the height above ground 9Y, in metres; it is never blank. */
+uint8_t desk_set_ground(uint8_t *record, size_t record_length,
+                        int64_t metres, uint8_t *code);
+
+#ifdef __cplusplus
+}
+#endif
+
+#endif /* DESK_H */
