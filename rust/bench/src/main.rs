@@ -1,0 +1,175 @@
+//! How fast the desk library is, measured against the peer: one run, one table.
+
+#![forbid(unsafe_code)]
+
+mod samples;
+mod timing;
+
+use std::hint::black_box;
+
+use desk::raw;
+use peer::{sheet_length, Record, Station};
+use timing::{compare, Times};
+
+/// The sizes of file at which growth is measured.
+const SIZES: [usize; 3] = [10, 50, 250];
+
+/// What the output says before its table.
+const STATE: &str = "\
+One thread; every buffer is lent, stays in memory and was used before, so caches are warm.
+Records: 64 different stations in turn; respelling writes into one buffer of 219 bytes.
+Judging: files whose 13X share their first nine bytes and all differ, so that no search for a
+twin ends early; two files in turn, one sheet.
+Replacing: one file and its own sheet, changed by every call. One row: each station in turn gets
+a 13X that no other has. n rows: all stations share one 13X; number 1 leaves it and comes back to
+it by turns.
+";
+
+/// What is measured at one size of file.
+struct Size {
+    n: usize,
+    judge: Times,
+    replace_one: Times,
+    replace_all: Times,
+}
+
+fn main() {
+    let (repetitions, least) = (timing::REPETITIONS, timing::AT_LEAST.as_micros());
+    println!("Nanoseconds for one call: the median of {repetitions} repetitions of at least {least} µs each,");
+    println!("the two sides by turns.\n{STATE}");
+    println!("{:45} {:>12} {:>12} {:>15}", "call", "verified", "peer", "verified : peer");
+    let sizes = SIZES.map(measured);
+    let [small, _, full] = &sizes;
+    row("station code, stations that hold", station_code(&samples::stations()));
+    row("station code, one field broken", station_code(&samples::broken_stations()));
+    row("judge, n = 250", full.judge);
+    row("replace that writes one row, n = 250", full.replace_one);
+    row("replace that writes 250 rows, n = 250", full.replace_all);
+    row("respell a station", respell());
+    println!("growth (factors since n = 10: verified, peer)");
+    for Size { n, judge, .. } in &sizes {
+        grown(&format!("judge, n = {n}"), *judge, small.judge);
+    }
+    for Size { n, replace_one, .. } in &sizes {
+        grown(&format!("replace, one row, n = {n}"), *replace_one, small.replace_one);
+    }
+    for Size { n, replace_all, .. } in &sizes {
+        grown(&format!("replace, n rows, n = {n}"), *replace_all, small.replace_all);
+    }
+    println!("judge : replace at n = 250, verified alone");
+    println!("  one row written {:30.1}", full.judge.verified / full.replace_one.verified);
+    println!("  250 rows written {:29.1}", full.judge.verified / full.replace_all.verified);
+}
+
+fn measured(n: usize) -> Size {
+    Size { n, judge: judge(n), replace_one: replace_one(n), replace_all: replace_all(n) }
+}
+
+fn row(name: &str, times: Times) {
+    let Times { verified, peer } = times;
+    println!("{name:45} {verified:12.1} {peer:12.1} {:15.2}", verified / peer);
+}
+
+/// A row that tells as well by how much each side has grown since the smallest file.
+fn grown(name: &str, times: Times, small: Times) {
+    let (verified, peer) = (times.verified / small.verified, times.peer / small.peer);
+    row(&format!("  {name:27} x{verified:<6.1} x{peer:<6.1}"), times);
+}
+
+fn station_code(stations: &[Record]) -> Times {
+    for station in stations {
+        assert_eq!(raw::station_code(station).1, peer::station_code(station));
+    }
+    let mut ours = stations.iter().cycle();
+    let mut theirs = stations.iter().cycle();
+    compare(
+        || _ = black_box(raw::station_code(black_box(ours.next().expect("a cycle")))),
+        || _ = black_box(peer::station_code(black_box(theirs.next().expect("a cycle")))),
+    )
+}
+
+fn respell() -> Times {
+    let stations = samples::stations();
+    let mut ours = stations.iter().cycle();
+    let mut theirs = stations.iter().cycle();
+    let (mut our_out, mut their_out) = ([0; 219], [0; 219]);
+    compare(
+        || {
+            let record = black_box(ours.next().expect("a cycle"));
+            assert_eq!(raw::respell_station(record, black_box(&mut our_out)), (0, 0));
+        },
+        || {
+            let record = black_box(theirs.next().expect("a cycle"));
+            let written =
+                Station::read(record).and_then(|station| station.write(black_box(&mut their_out)));
+            assert_eq!(written, Ok(()));
+        },
+    )
+}
+
+fn judge(n: usize) -> Times {
+    let file_from = |first| samples::file(n, |index| samples::near_reference(first + index));
+    let files = [file_from(0), file_from(300)];
+    let (mut our_sheet, mut their_sheet) = (vec![0; sheet_length(n)], vec![0; sheet_length(n)]);
+    let mut ours = files.iter().cycle();
+    let mut theirs = files.iter().cycle();
+    let times = compare(
+        || {
+            let file = black_box(ours.next().expect("a cycle"));
+            assert_eq!(raw::judge(file, black_box(&mut our_sheet)), 0);
+        },
+        || {
+            let file = black_box(theirs.next().expect("a cycle"));
+            assert_eq!(peer::judge(file, black_box(&mut their_sheet)), Ok(()));
+        },
+    );
+    assert_eq!(our_sheet, their_sheet);
+    times
+}
+
+/// Each station in turn gets a 13X of its own.
+fn replace_one(n: usize) -> Times {
+    let samples = samples::stations();
+    let file = samples::file(n, samples::near_reference);
+    let record = |step: usize| {
+        let other = if step < n { 300 } else { 0 };
+        let reference = samples::near_reference(step % n + other);
+        (step % n + 1, samples::referenced(&samples[step % samples::STATIONS], reference))
+    };
+    replacements(file, (0..2 * n).map(record).collect(), 1)
+}
+
+/// The first station leaves the 13X that all others share, and comes back to it.
+fn replace_all(n: usize) -> Times {
+    let samples = samples::stations();
+    let file = samples::file(n, |_| samples::near_reference(0));
+    let record = |step: usize| {
+        let reference = samples::near_reference((step + 1) % 2);
+        (1, samples::referenced(&samples[step % samples::STATIONS], reference))
+    };
+    replacements(file, (0..samples::STATIONS).map(record).collect(), n)
+}
+
+/// Makes the same replacements over and over, each of which writes `rows` rows.
+fn replacements(file: Vec<u8>, records: Vec<(usize, Record)>, rows: usize) -> Times {
+    let n = file.len() / 219 - 1;
+    let mut sheet = vec![0; sheet_length(n)];
+    peer::judge(&file, &mut sheet).expect("the file is whole");
+    let (mut our_file, mut our_sheet) = (file.clone(), sheet.clone());
+    let (mut their_file, mut their_sheet) = (file, sheet);
+    let mut ours = records.iter().cycle();
+    let mut theirs = records.iter().cycle();
+    compare(
+        || {
+            let (number, record) = black_box(ours.next().expect("a cycle"));
+            let answer = raw::replace(black_box(&mut our_file), &mut our_sheet, *number, record);
+            assert_eq!(answer, (0, rows));
+        },
+        || {
+            let (number, record) = black_box(theirs.next().expect("a cycle"));
+            let answer =
+                peer::replace(black_box(&mut their_file), &mut their_sheet, *number, record);
+            assert_eq!(answer, Ok(rows));
+        },
+    )
+}

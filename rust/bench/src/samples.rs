@@ -1,0 +1,111 @@
+//! Stations and files to measure on; they vary so that no answer can be known beforehand.
+
+use peer::{Date, Frequency, Header, Kilometres, Metres, Place, Record, Station, Tenths, Unit};
+
+/// How many different stations there are.
+pub const STATIONS: usize = 64;
+
+/// Different stations that break no rule, in the one spelling.
+pub fn stations() -> Vec<Record> {
+    (0..STATIONS).map(|index| written(&station(index as i64))).collect()
+}
+
+/// Different stations, each broken in one of its fields.
+pub fn broken_stations() -> Vec<Record> {
+    let break_one = |(index, mut record): (usize, Record)| {
+        let [first, _] = peer::STATION_FIELDS[index % 30];
+        record[first - 1] = b'#';
+        record
+    };
+    stations().into_iter().enumerate().map(break_one).collect()
+}
+
+/// A 13X that is like all others in its first nine bytes and like none of them after.
+pub fn near_reference(index: usize) -> [u8; 15] {
+    let letters = b"ABCDEFGHIJKLMNOPQRSTUVWXYZ";
+    let mut reference = *b"AUT2311AB00A000";
+    reference[9] = letters[index / 26 % 26];
+    reference[10] = letters[index % 26];
+    reference[12..].copy_from_slice(format!("{:03}", index % 1000).as_bytes());
+    reference
+}
+
+/// A file of stations whose 13X are those that `reference` gives for their indices.
+pub fn file(count: usize, reference: impl Fn(usize) -> [u8; 15]) -> Vec<u8> {
+    let samples = stations();
+    let mut file = header(count as i64).to_vec();
+    for index in 0..count {
+        file.extend(referenced(&samples[index % STATIONS], reference(index)));
+    }
+    file
+}
+
+/// A station with another 13X.
+pub fn referenced(station: &Record, reference: [u8; 15]) -> Record {
+    let mut record = *station;
+    record[204..].copy_from_slice(&reference);
+    record
+}
+
+fn header(count: i64) -> Record {
+    let header = Header {
+        number: 1,
+        kind: b'O',
+        origin: *b"AUT",
+        count,
+        date: Some(Date { day: 2, month: 1, year: 2024 }),
+        destination: *b"AUT",
+        version: *b"1.0",
+        ..Header::EMPTY
+    };
+    let mut record = [0; 219];
+    header.write(&mut record).expect("the header holds");
+    record
+}
+
+fn written(station: &Station) -> Record {
+    let mut record = [0; 219];
+    station.write(&mut record).expect("the station holds");
+    record
+}
+
+/// A base station like S of 01, with numbers that go with `index`.
+fn station(index: i64) -> Station {
+    let frequency = |count| Some(Frequency { count, unit: Unit::Mega });
+    let mut name = *b"1010_MUSTER         ";
+    name[12..14].copy_from_slice(format!("{index:02}").as_bytes());
+    let mut remarks = [b' '; 50];
+    if index % 2 == 0 {
+        remarks[..23].copy_from_slice(b"4  1E1850B 2OStadtplatz");
+    }
+    Station {
+        transmit: frequency(93_820_000 + 20_000 * index),
+        category: b'1' + (index % 8) as u8,
+        class: *b"FB",
+        service: *b"CP",
+        user: *b"L ",
+        occupancy: b'1',
+        in_use: Some(Date { day: 1 + (index % 28) as u8, month: 3, year: 2021 }),
+        name,
+        country: *b"AUT",
+        place: Place { east: 58_925 + 61 * index, north: 173_520 - 59 * index },
+        radius: Kilometres(0),
+        height: Some(Metres(180 + index)),
+        emission: *b"5M00G7W  ",
+        power: Some(Tenths(300 - 7 * index)),
+        antenna: b'E',
+        azimuth: Some(Tenths(50 * index)),
+        elevation: Some(Tenths(20 - index)),
+        polarization: *b"V ",
+        gain: Some(Tenths(170 + index)),
+        ground: Metres(30 + index),
+        horizontal: *b"065CA00",
+        vertical: *b"007CB10",
+        receive: frequency(89_320_000 + 20_000 * index),
+        remarks,
+        status: b'B',
+        requested: None,
+        completed: Some(Date { day: 1, month: 2, year: 2021 }),
+        reference: near_reference(index as usize),
+    }
+}

@@ -1,0 +1,256 @@
+//! A safe wrapper over the desk library, whose C boundary `include/desk.h` describes.
+//!
+//! A filing file is one header and n stations, 0 ≤ n ≤ 250, each a record of 219 bytes. Judging
+//! fills a sheet of 2n + 8 bytes; replacing puts a record in and mends the sheet; showing finds a
+//! field; setting changes one value of a station. A refused call changes no lent byte.
+//!
+//! ```
+//! // One station, not filled in: its first broken rule is 3, the header's is 1.
+//! let file = [b' '; 2 * desk::RECORD_LENGTH];
+//! let mut sheet = [0; desk::sheet_length(1)];
+//! desk::judge(&file, &mut sheet)?;
+//! assert_eq!(sheet, [3, 0, 0, 10, 2, 1, 1, 1, b'2', b'A']);
+//! # Ok::<(), desk::Refusal>(())
+//! ```
+
+pub mod raw;
+mod refusal;
+
+pub use refusal::Refusal;
+
+/// The length of a header or station in bytes.
+pub const RECORD_LENGTH: usize = 219;
+
+/// The most stations that a file holds.
+pub const MAX_STATIONS: usize = 250;
+
+/// The most bytes that a file has.
+pub const MAX_FILE_LENGTH: usize = (MAX_STATIONS + 1) * RECORD_LENGTH;
+
+/// The length of the sheet for a file of this many stations.
+pub const fn sheet_length(stations: usize) -> usize {
+    2 * stations + 8
+}
+
+/// Judges a file and fills its sheet. Refusals: 1, 2, 3.
+///
+/// ```
+/// let header = [b' '; 219];
+/// let mut sheet = [0; 8];
+/// desk::judge(&header, &mut sheet)?;
+/// assert_eq!(sheet, [0, 8, 2, 1, 0, 0, b'2', b'A']);
+/// assert_eq!(desk::judge(&[], &mut sheet), Err(desk::Refusal::FileLength));
+/// # Ok::<(), desk::Refusal>(())
+/// ```
+pub fn judge(file: &[u8], sheet: &mut [u8]) -> Result<(), Refusal> {
+    answer(raw::judge(file, sheet), 0, ())
+}
+
+/// Puts in record `number`, 0 being the header, mends the sheet and answers the number of rows
+/// written. Refusals: 1 to 6.
+///
+/// ```
+/// let mut file = [b' '; 3 * 219];
+/// let mut sheet = [0; desk::sheet_length(2)];
+/// desk::judge(&file, &mut sheet)?;
+/// assert_eq!(sheet[..4], [3, 0, 3, 1]);
+/// // The second station shares the old 13X of the first, so both rows are written.
+/// assert_eq!(desk::replace(&mut file, &mut sheet, 1, &[b'1'; 219])?, 2);
+/// assert_eq!(sheet[..4], [1, 0, 3, 0]);
+/// # Ok::<(), desk::Refusal>(())
+/// ```
+pub fn replace(
+    file: &mut [u8],
+    sheet: &mut [u8],
+    number: usize,
+    record: &[u8],
+) -> Result<usize, Refusal> {
+    let (refusal, rows) = raw::replace(file, sheet, number, record);
+    answer(refusal, 0, rows)
+}
+
+/// The piece of the file that holds a field of record `number`, 0 being the header.
+/// Refusals: 1, 2, 5, 8.
+///
+/// ```
+/// let mut header = [b' '; 219];
+/// header[209..212].copy_from_slice(b"1.0");
+/// assert_eq!(desk::show(&header, 0, 13), Ok(&b"1.0"[..]));
+/// assert_eq!(desk::show(&header, 1, 13), Err(desk::Refusal::NoSuchRecord));
+/// assert_eq!(desk::show(&header, 0, 15), Err(desk::Refusal::NoSuchField));
+/// ```
+pub fn show(file: &[u8], number: usize, field: usize) -> Result<&[u8], Refusal> {
+    let (refusal, offset, length) = raw::show(file, number, field);
+    answer(refusal, 0, ())?;
+    Ok(&file[offset..][..length])
+}
+
+/// Whether a record is a station that breaks no rule. Refusals: 6, 9.
+///
+/// ```
+/// # let station = include_bytes!(concat!(env!("CARGO_MANIFEST_DIR"), "/station-s.txt"));
+/// assert_eq!(desk::check_station(station), Ok(()));
+/// assert_eq!(desk::check_station(&[b' '; 219]), Err(desk::Refusal::BrokenRule { code: 3 }));
+/// assert_eq!(desk::check_station(&[]), Err(desk::Refusal::RecordLength));
+/// ```
+pub fn check_station(record: &[u8]) -> Result<(), Refusal> {
+    let (refusal, code) = raw::station_code(record);
+    answer(refusal, code, ())
+}
+
+/// Whether a record is a header that breaks none of the rules 1 to 14. Refusals: 6, 9.
+///
+/// ```
+/// assert_eq!(desk::check_header(&[b' '; 219]), Err(desk::Refusal::BrokenRule { code: 1 }));
+/// ```
+pub fn check_header(record: &[u8]) -> Result<(), Refusal> {
+    let (refusal, code) = raw::header_code(record);
+    answer(refusal, code, ())
+}
+
+/// Writes the station of a record into `out` in the one spelling. Refusals: 6, 7, 9.
+///
+/// ```
+/// # let station = include_bytes!(concat!(env!("CARGO_MANIFEST_DIR"), "/station-s.txt"));
+/// let mut record = *station;
+/// record[..11].copy_from_slice(b"  938.2    ");
+/// let mut out = [0; 219];
+/// desk::respell_station(&record, &mut out)?;
+/// assert_eq!(&out[..11], b"00938.20000");
+/// # Ok::<(), desk::Refusal>(())
+/// ```
+pub fn respell_station(record: &[u8], out: &mut [u8]) -> Result<(), Refusal> {
+    let (refusal, code) = raw::respell_station(record, out);
+    answer(refusal, code, ())
+}
+
+/// Writes the header of a record into `out` in the one spelling. Refusals: 6, 7, 9.
+///
+/// ```
+/// let mut header = [b' '; 219];
+/// header[..2].copy_from_slice(b" 1");
+/// header[82..86].copy_from_slice(b"OAUT");
+/// header[186..203].copy_from_slice(b"     002012024AUT");
+/// header[209..212].copy_from_slice(b"1.0");
+/// let mut out = [0; 219];
+/// desk::respell_header(&header, &mut out)?;
+/// assert_eq!((&out[..2], &out[186..192]), (&b"01"[..], &b"000000"[..]));
+/// # Ok::<(), desk::Refusal>(())
+/// ```
+pub fn respell_header(record: &[u8], out: &mut [u8]) -> Result<(), Refusal> {
+    let (refusal, code) = raw::respell_header(record, out);
+    answer(refusal, code, ())
+}
+
+/// Sets the power 8B1 of a station, in tenths of dBW, or makes it blank. Refusals: 6, 9.
+///
+/// ```
+/// # let station = include_bytes!(concat!(env!("CARGO_MANIFEST_DIR"), "/station-s.txt"));
+/// let mut record = *station;
+/// desk::set_power(&mut record, Some(-50))?;
+/// assert_eq!(&record[84..90], b"-005.0");
+/// desk::set_power(&mut record, None)?;
+/// assert_eq!(&record[84..90], b"      ");
+/// # Ok::<(), desk::Refusal>(())
+/// ```
+pub fn set_power(record: &mut [u8], tenths: Option<i64>) -> Result<(), Refusal> {
+    let (refusal, code) = raw::set_power(record, tenths);
+    answer(refusal, code, ())
+}
+
+/// Sets the azimuth 9A of a station, in tenths of a degree, or makes it blank. Refusals: 6, 9.
+///
+/// ```
+/// # let station = include_bytes!(concat!(env!("CARGO_MANIFEST_DIR"), "/station-s.txt"));
+/// let mut record = *station;
+/// desk::set_azimuth(&mut record, Some(3_599))?;
+/// assert_eq!(&record[91..96], b"359.9");
+/// let refused = desk::set_azimuth(&mut record, Some(3_600));
+/// assert_eq!(refused, Err(desk::Refusal::BrokenRule { code: 17 }));
+/// # Ok::<(), desk::Refusal>(())
+/// ```
+pub fn set_azimuth(record: &mut [u8], tenths: Option<i64>) -> Result<(), Refusal> {
+    let (refusal, code) = raw::set_azimuth(record, tenths);
+    answer(refusal, code, ())
+}
+
+/// Sets the elevation 9B of a station, in tenths of a degree, or makes it blank. Refusals: 6, 9.
+///
+/// ```
+/// # let station = include_bytes!(concat!(env!("CARGO_MANIFEST_DIR"), "/station-s.txt"));
+/// let mut record = *station;
+/// desk::set_elevation(&mut record, Some(-900))?;
+/// assert_eq!(&record[96..101], b"-90.0");
+/// # Ok::<(), desk::Refusal>(())
+/// ```
+pub fn set_elevation(record: &mut [u8], tenths: Option<i64>) -> Result<(), Refusal> {
+    let (refusal, code) = raw::set_elevation(record, tenths);
+    answer(refusal, code, ())
+}
+
+/// Sets the height above sea 4Z of a station, in metres, or makes it blank. Refusals: 6, 9.
+///
+/// ```
+/// # let station = include_bytes!(concat!(env!("CARGO_MANIFEST_DIR"), "/station-s.txt"));
+/// let mut record = *station;
+/// desk::set_height(&mut record, Some(-5))?;
+/// assert_eq!(&record[71..75], b"-005");
+/// # Ok::<(), desk::Refusal>(())
+/// ```
+pub fn set_height(record: &mut [u8], metres: Option<i64>) -> Result<(), Refusal> {
+    let (refusal, code) = raw::set_height(record, metres);
+    answer(refusal, code, ())
+}
+
+/// Sets the height above ground 9Y of a station, in metres. Refusals: 6, 9.
+///
+/// ```
+/// # let station = include_bytes!(concat!(env!("CARGO_MANIFEST_DIR"), "/station-s.txt"));
+/// let mut record = *station;
+/// desk::set_ground(&mut record, 45)?;
+/// assert_eq!(&record[107..111], b"0045");
+/// # Ok::<(), desk::Refusal>(())
+/// ```
+pub fn set_ground(record: &mut [u8], metres: i64) -> Result<(), Refusal> {
+    let (refusal, code) = raw::set_ground(record, metres);
+    answer(refusal, code, ())
+}
+
+/// Writes the station of a record as a semicolon line and answers the line's length; bytes of
+/// `line` after it stay. Refusals: 6, 9, 12.
+///
+/// ```
+/// # let station = include_bytes!(concat!(env!("CARGO_MANIFEST_DIR"), "/station-s.txt"));
+/// let mut line = [0; 249];
+/// let length = desk::list_out(station, &mut line)?;
+/// assert!(line[..length].starts_with(b"00938.20000;M;2;FB;CP;L;1;01032021;1010_MUSTER;AUT;"));
+/// # Ok::<(), desk::Refusal>(())
+/// ```
+#[cfg(feature = "lists")]
+pub fn list_out(record: &[u8], line: &mut [u8]) -> Result<usize, Refusal> {
+    let (refusal, length, code) = raw::list_out(record, line);
+    answer(refusal, code, length)
+}
+
+/// Writes the station of a semicolon line, its line feed included, into `record` in the one
+/// spelling. Refusals, in this order: 7, 10, 11, 9.
+///
+/// ```
+/// # let station = include_bytes!(concat!(env!("CARGO_MANIFEST_DIR"), "/station-s.txt"));
+/// let mut line = [0; 249];
+/// let length = desk::list_out(station, &mut line)?;
+/// let mut record = [0; 219];
+/// desk::list_in(&line[..length], &mut record)?;
+/// assert_eq!(&record, station);
+/// # Ok::<(), desk::Refusal>(())
+/// ```
+#[cfg(feature = "lists")]
+pub fn list_in(line: &[u8], record: &mut [u8]) -> Result<(), Refusal> {
+    let (refusal, code) = raw::list_in(line, record);
+    answer(refusal, code, ())
+}
+
+/// The value of a call that was done, or its refusal.
+fn answer<T>(refusal: u8, code: u8, value: T) -> Result<T, Refusal> {
+    Refusal::from_numbers(refusal, code).map_or(Ok(value), Err)
+}

@@ -1,0 +1,120 @@
+//! The library's refusals.
+
+use std::fmt;
+
+/// Why a call was refused; a refused call changes no lent byte.
+#[derive(Clone, Copy, Debug, PartialEq, Eq)]
+pub enum Refusal {
+    /// 1: the file is longer than 54,969 bytes.
+    FileTooLong,
+    /// 2: the file's length is zero or no multiple of 219.
+    FileLength,
+    /// 3: the lent sheet is not exactly 2n + 8 bytes.
+    SheetLength,
+    /// 4: the sheet's trailer lacks "2A", width 2 or distance 2n + 8.
+    SheetTrailer,
+    /// 5: the record number is above n.
+    NoSuchRecord,
+    /// 6: the record offered is not 219 bytes.
+    RecordLength,
+    /// 7: the buffer to write into is not 219 bytes.
+    BufferLength,
+    /// 8: stations have fields 1 to 30, the header 1 to 14.
+    NoSuchField,
+    /// 9: a record or value breaks a rule.
+    BrokenRule {
+        /// The code of the first rule broken.
+        code: u8,
+    },
+    /// 10: the line has not twenty-nine semicolons and one line feed as its last byte.
+    LineShape,
+    /// 11: a field of the line is longer than its columns.
+    FieldTooLong,
+    /// 12: the lent buffer is shorter than the line.
+    LineBuffer,
+}
+
+impl Refusal {
+    /// The refusal with this number; none for 0.
+    ///
+    /// # Panics
+    ///
+    /// With a number above 12, which the library never gives.
+    pub(crate) fn from_numbers(number: u8, code: u8) -> Option<Refusal> {
+        let refusal = match number {
+            0 => return None,
+            1 => Refusal::FileTooLong,
+            2 => Refusal::FileLength,
+            3 => Refusal::SheetLength,
+            4 => Refusal::SheetTrailer,
+            5 => Refusal::NoSuchRecord,
+            6 => Refusal::RecordLength,
+            7 => Refusal::BufferLength,
+            8 => Refusal::NoSuchField,
+            9 => Refusal::BrokenRule { code },
+            10 => Refusal::LineShape,
+            11 => Refusal::FieldTooLong,
+            12 => Refusal::LineBuffer,
+            _ => panic!("the library has no refusal {number}"),
+        };
+        Some(refusal)
+    }
+
+    /// The refusal's number.
+    ///
+    /// ```
+    /// assert_eq!(desk::Refusal::SheetLength.number(), 3);
+    /// assert_eq!(desk::Refusal::BrokenRule { code: 17 }.number(), 9);
+    /// ```
+    pub fn number(self) -> u8 {
+        match self {
+            Refusal::FileTooLong => 1,
+            Refusal::FileLength => 2,
+            Refusal::SheetLength => 3,
+            Refusal::SheetTrailer => 4,
+            Refusal::NoSuchRecord => 5,
+            Refusal::RecordLength => 6,
+            Refusal::BufferLength => 7,
+            Refusal::NoSuchField => 8,
+            Refusal::BrokenRule { .. } => 9,
+            Refusal::LineShape => 10,
+            Refusal::FieldTooLong => 11,
+            Refusal::LineBuffer => 12,
+        }
+    }
+}
+
+impl fmt::Display for Refusal {
+    fn fmt(&self, f: &mut fmt::Formatter<'_>) -> fmt::Result {
+        match self {
+            Refusal::FileTooLong => write!(f, "the file is longer than 54,969 bytes"),
+            Refusal::FileLength => write!(f, "the file's length is zero or no multiple of 219"),
+            Refusal::SheetLength => write!(f, "the sheet is not 2n + 8 bytes"),
+            Refusal::SheetTrailer => write!(f, "the sheet's trailer is not that of this file"),
+            Refusal::NoSuchRecord => write!(f, "the file has no record with this number"),
+            Refusal::RecordLength => write!(f, "the record is not 219 bytes"),
+            Refusal::BufferLength => write!(f, "the buffer is not 219 bytes"),
+            Refusal::NoSuchField => write!(f, "the record has no field with this number"),
+            Refusal::BrokenRule { code } => write!(f, "rule {code} is broken"),
+            Refusal::LineShape => write!(f, "the line has not 29 semicolons and a line feed"),
+            Refusal::FieldTooLong => write!(f, "a field of the line is longer than its columns"),
+            Refusal::LineBuffer => write!(f, "the buffer is shorter than the line"),
+        }
+    }
+}
+
+impl std::error::Error for Refusal {}
+
+#[cfg(test)]
+mod tests {
+    use super::*;
+
+    #[test]
+    fn numbers_are_kept() {
+        assert_eq!(Refusal::from_numbers(0, 0), None);
+        for number in 1..=12 {
+            assert_eq!(Refusal::from_numbers(number, 5).map(Refusal::number), Some(number));
+        }
+        assert_eq!(Refusal::from_numbers(9, 5), Some(Refusal::BrokenRule { code: 5 }));
+    }
+}

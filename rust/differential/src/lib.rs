@@ -1,0 +1,55 @@
+//! The desk library compared with the peer, call by call, on made input.
+//!
+//! Input is made by a generator with a fixed seed: fields in good spellings and near misses,
+//! records that break each rule in turn, damaged bytes, wrong lengths, and runs of replacements
+//! in files of up to 250 stations. Each call is made of both on equal bytes; refusals, codes,
+//! counts and every lent byte must be equal after it, and refused calls must leave all bytes.
+
+#![forbid(unsafe_code)]
+
+mod calls;
+mod cases;
+mod fields;
+mod oracle;
+mod random;
+mod records;
+mod runs;
+mod sweeps;
+mod tally;
+
+pub use tally::Tally;
+
+/// How many single records are made if nothing else is asked for.
+pub const DEFAULT_COUNT: usize = 200_000;
+
+/// The seed of every run.
+const SEED: u64 = 0x2a_219_250;
+
+/// How many single records there are to one run of replacements.
+const CASES_PER_RUN: usize = 200;
+
+/// How many runs of replacements share their stations.
+const RUNS_PER_POOL: usize = 100;
+
+/// Compares `count` single records and the runs that go with them; answers what was met. With
+/// fewer than some 10,000 records not everything is.
+///
+/// # Panics
+///
+/// Where the library and the peer part, with the call and its input.
+pub fn run(count: usize) -> Tally {
+    let mut comparison = calls::Comparison::default();
+    let mut random = random::Random::new(SEED);
+    sweeps::all(&mut comparison, &mut random);
+    for index in 0..count {
+        cases::case(&mut comparison, &mut random, index);
+    }
+    let mut pool = runs::Pool::new(&mut random);
+    for index in 0..count.div_ceil(CASES_PER_RUN) {
+        if index % RUNS_PER_POOL == RUNS_PER_POOL - 1 {
+            pool = runs::Pool::new(&mut random);
+        }
+        runs::run(&mut comparison, &mut random, &pool, index);
+    }
+    comparison.tally
+}

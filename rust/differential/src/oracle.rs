@@ -1,0 +1,106 @@
+//! The boundary's calls made of the peer, with the numbers that `desk::raw` gives.
+
+use peer::{Header, Metres, Refusal, Station, Tenths, RECORD_LENGTH};
+
+/// `desk_judge`.
+pub fn judge(file: &[u8], sheet: &mut [u8]) -> u8 {
+    numbers(&peer::judge(file, sheet)).0
+}
+
+/// `desk_replace`.
+pub fn replace(file: &mut [u8], sheet: &mut [u8], number: usize, record: &[u8]) -> (u8, usize) {
+    let answer = peer::replace(file, sheet, number, record);
+    (numbers(&answer).0, answer.unwrap_or(0))
+}
+
+/// `desk_show`.
+pub fn show(file: &[u8], number: usize, field: usize) -> (u8, usize, usize) {
+    let answer = peer::locate(file, number, field);
+    let refusal = numbers(&answer).0;
+    let range = answer.unwrap_or(0..0);
+    (refusal, range.start, range.len())
+}
+
+/// `desk_station_code`.
+pub fn station_code(record: &[u8]) -> (u8, u8) {
+    numbers(&Station::read(record))
+}
+
+/// `desk_header_code`.
+pub fn header_code(record: &[u8]) -> (u8, u8) {
+    numbers(&Header::read(record))
+}
+
+/// `desk_respell_station`.
+pub fn respell_station(record: &[u8], out: &mut [u8]) -> (u8, u8) {
+    numbers(&lengths(record, out).and_then(|()| Station::read(record)?.write(out)))
+}
+
+/// `desk_respell_header`.
+pub fn respell_header(record: &[u8], out: &mut [u8]) -> (u8, u8) {
+    numbers(&lengths(record, out).and_then(|()| Header::read(record)?.write(out)))
+}
+
+/// `desk_set_power`.
+pub fn set_power(record: &mut [u8], tenths: Option<i64>) -> (u8, u8) {
+    set(record, |station| station.set_power(tenths.map(Tenths)))
+}
+
+/// `desk_set_azimuth`.
+pub fn set_azimuth(record: &mut [u8], tenths: Option<i64>) -> (u8, u8) {
+    set(record, |station| station.set_azimuth(tenths.map(Tenths)))
+}
+
+/// `desk_set_elevation`.
+pub fn set_elevation(record: &mut [u8], tenths: Option<i64>) -> (u8, u8) {
+    set(record, |station| station.set_elevation(tenths.map(Tenths)))
+}
+
+/// `desk_set_height`.
+pub fn set_height(record: &mut [u8], metres: Option<i64>) -> (u8, u8) {
+    set(record, |station| station.set_height(metres.map(Metres)))
+}
+
+/// `desk_set_ground`.
+pub fn set_ground(record: &mut [u8], metres: i64) -> (u8, u8) {
+    set(record, |station| station.set_ground(Metres(metres)))
+}
+
+/// `desk_list_out`.
+#[cfg(feature = "lists")]
+pub fn list_out(record: &[u8], line: &mut [u8]) -> (u8, usize, u8) {
+    let answer = Station::read(record).and_then(|station| peer::lists::write_line(&station, line));
+    let (refusal, code) = numbers(&answer);
+    (refusal, answer.unwrap_or(0), code)
+}
+
+/// `desk_list_in`.
+#[cfg(feature = "lists")]
+pub fn list_in(line: &[u8], record: &mut [u8]) -> (u8, u8) {
+    if record.len() != RECORD_LENGTH {
+        return numbers::<()>(&Err(Refusal::BufferLength));
+    }
+    numbers(&peer::lists::read_line(line).and_then(|station| station.write(record)))
+}
+
+fn set(record: &mut [u8], change: impl FnOnce(Station) -> Result<Station, Refusal>) -> (u8, u8) {
+    numbers(&Station::read(record).and_then(change).and_then(|station| station.write(record)))
+}
+
+fn lengths(record: &[u8], out: &[u8]) -> Result<(), Refusal> {
+    if record.len() != RECORD_LENGTH {
+        Err(Refusal::RecordLength)
+    } else if out.len() != RECORD_LENGTH {
+        Err(Refusal::BufferLength)
+    } else {
+        Ok(())
+    }
+}
+
+/// The refusal's number and code, 0 and 0 for none.
+fn numbers<T>(answer: &Result<T, Refusal>) -> (u8, u8) {
+    match answer {
+        Ok(_) => (0, 0),
+        Err(refusal) => (refusal.number(), refusal.code()),
+    }
+}

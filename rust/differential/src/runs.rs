@@ -1,0 +1,232 @@
+//! Runs of replacements in one file, with its own sheet or that of another.
+
+use peer::{sheet_length, Record, MAX_FILE_LENGTH, STATION_FIELDS};
+
+use crate::calls::Comparison;
+use crate::fields;
+use crate::random::Random;
+use crate::records::{self, OTHER_LENGTHS};
+
+/// How many stations the files have; the largest is the slowest.
+const SIZES: [usize; 12] = [0, 1, 1, 2, 2, 2, 3, 10, 10, 10, 10, 250];
+
+/// How many calls a run makes.
+const STEPS: usize = 16;
+
+/// Stations that break each rule, and as many that break none.
+pub struct Pool {
+    stations: Vec<Record>,
+}
+
+impl Pool {
+    /// A pool made anew.
+    pub fn new(random: &mut Random) -> Pool {
+        let targets = (0..40).cycle().take(400);
+        let broken: Vec<_> = targets.map(|target| records::station(random, target)).collect();
+        let good = (0..400).map(|_| records::station(random, 0));
+        Pool { stations: broken.into_iter().chain(good).collect() }
+    }
+
+    /// A station, mostly with one of the 13X given.
+    fn station(&self, random: &mut Random, references: &[Vec<u8>]) -> Record {
+        let mut record = random.pick(&self.stations);
+        if !random.one_in(16) {
+            let reference = &references[random.below(references.len())];
+            records::put(&mut record, &STATION_FIELDS, 30, reference);
+        }
+        record
+    }
+}
+
+/// One file, its sheet and the calls made on them.
+struct Run<'a> {
+    comparison: &'a mut Comparison,
+    random: &'a mut Random,
+    pool: &'a Pool,
+    references: Vec<Vec<u8>>,
+    stations: usize,
+    file: Vec<u8>,
+    sheet: Vec<u8>,
+}
+
+/// Makes one run and compares after every call; what is wrong with the headers takes turns.
+pub fn run(comparison: &mut Comparison, random: &mut Random, pool: &Pool, index: usize) {
+    let stations = random.pick(&SIZES);
+    let references = references(random);
+    let mut run = Run {
+        comparison,
+        random,
+        pool,
+        references,
+        stations,
+        file: Vec::new(),
+        sheet: vec![0; sheet_length(stations)],
+    };
+    let header = run.header(index % 16);
+    run.file = run.file_with(header);
+    run.go();
+}
+
+impl Run<'_> {
+    fn go(&mut self) {
+        let own_sheet = !self.random.one_in(4);
+        self.sheet.fill(self.random.byte());
+        if own_sheet {
+            self.sheet = self.comparison.judge(&self.file, self.sheet.clone());
+        } else {
+            self.sheet = self.foreign_sheet();
+        }
+        for _ in 0..STEPS {
+            self.step();
+            if own_sheet {
+                self.judge_afresh();
+            }
+        }
+        self.show();
+    }
+
+    /// A sheet judged from another file, with any bytes in its rows now and then.
+    fn foreign_sheet(&mut self) -> Vec<u8> {
+        let header = self.any_header();
+        let other = self.file_with(header);
+        let mut sheet = self.comparison.judge(&other, self.sheet.clone());
+        if self.random.one_in(2) {
+            sheet[..2 * self.stations].fill_with(|| self.random.byte());
+        }
+        sheet
+    }
+
+    fn file_with(&mut self, header: Record) -> Vec<u8> {
+        let mut file = header.to_vec();
+        for _ in 0..self.stations {
+            file.extend(self.pool.station(self.random, &self.references));
+        }
+        file
+    }
+
+    /// A header that mostly has this code in its file.
+    fn header(&mut self, code: usize) -> Record {
+        let count = self.stations as i64;
+        if code == 15 {
+            let other = count + self.random.pick(&[-1, 1, 256, 65_536]);
+            records::header(self.random, 0, if other < 0 { 1 } else { other })
+        } else {
+            records::header(self.random, code, count)
+        }
+    }
+
+    fn any_header(&mut self) -> Record {
+        let code = self.random.below(16);
+        match self.random.below(4) {
+            0 => self.header(15),
+            1 => self.header(code),
+            2 => records::any_header(self.random, 0, self.stations as i64),
+            _ => self.header(0),
+        }
+    }
+
+    fn step(&mut self) {
+        if self.random.one_in(4) {
+            return self.refused_calls();
+        }
+        let number = self.random.below(self.stations + 1);
+        let mut record = if number == 0 {
+            self.any_header()
+        } else {
+            self.pool.station(self.random, &self.references)
+        };
+        if self.random.one_in(6) {
+            let old = &self.file[219 * number..][..219];
+            match self.random.below(3) {
+                0 => record.copy_from_slice(old),
+                1 => record[204..].copy_from_slice(&old[204..]),
+                _ => record[..204].copy_from_slice(&old[..204]),
+            }
+        }
+        self.comparison.replace(&mut self.file, &mut self.sheet, number, &record);
+    }
+
+    /// A sheet judged from its file stays what judging gives.
+    fn judge_afresh(&mut self) {
+        let blank = vec![self.random.byte(); self.sheet.len()];
+        let fresh = self.comparison.judge(&self.file, blank);
+        assert_eq!(self.sheet, fresh, "a mended sheet is not the sheet judged afresh");
+    }
+
+    /// Calls in which one or more of the things that refusals 1 to 6 ask about are wrong.
+    fn refused_calls(&mut self) {
+        let faults = 1 + self.random.below(63);
+        let wrong = |refusal: usize| faults >> (refusal - 1) & 1 == 1;
+        let (mut file, mut sheet) = (self.file.clone(), self.sheet.clone());
+        let mut number = self.random.below(self.stations + 1);
+        let mut record = self.pool.station(self.random, &self.references).to_vec();
+        if wrong(1) && self.random.one_in(4) {
+            let long = [1, 219, 220, 5_000];
+            file.resize(MAX_FILE_LENGTH + self.random.pick(&long), b' ');
+        }
+        if wrong(2) && self.random.one_in(2) {
+            let length = file.len();
+            let lengths = [0, 1, 218, 220, length - 1, length + 1, length + 218];
+            file.resize(self.random.pick(&lengths), b' ');
+        }
+        if wrong(3) && self.random.one_in(2) {
+            let length = sheet.len();
+            let lengths = [0, 1, 7, length - 1, length + 1, length - 2, length + 2, length + 256];
+            sheet.resize(self.random.pick(&lengths), 0);
+        }
+        if wrong(4) && !sheet.is_empty() {
+            let from_end = self.random.pick(&[1, 2, 6, 7, 8]).min(sheet.len());
+            let place = sheet.len() - from_end;
+            sheet[place] = sheet[place].wrapping_add(self.random.pick(&[1, 2, 255]));
+        }
+        if wrong(5) {
+            let above = self.stations + 1;
+            number = self.random.pick(&[above, above + 1, 251, 256, 1 << 32, usize::MAX]);
+        }
+        if wrong(6) {
+            let length = self.random.pick(&OTHER_LENGTHS);
+            record.resize(length, b' ');
+        }
+        let field = self.random.below(33);
+        self.comparison.show(&file, number, field);
+        self.comparison.judge(&file, sheet.clone());
+        let before = (file.clone(), sheet.clone());
+        self.comparison.replace(&mut file, &mut sheet, number, &record);
+        if (&before.0, &before.1) == (&self.file, &self.sheet) {
+            // Nothing was wrong with what was lent, so the call may have been done.
+            (self.file, self.sheet) = (file, sheet);
+        }
+    }
+
+    /// Shows every field of a few records, and some that are not there.
+    fn show(&mut self) {
+        let last = self.stations;
+        let any = self.random.below(last + 1);
+        for number in [0, any, last, last + 1, usize::MAX] {
+            for field in (0..=32).chain([256, 257, usize::MAX]) {
+                self.comparison.show(&self.file, number, field);
+            }
+        }
+    }
+}
+
+/// The 13X of a run: one or many, some of them unlike in one byte, some broken.
+fn references(random: &mut Random) -> Vec<Vec<u8>> {
+    let first = fields::reference(random);
+    let size = random.pick(&[1, 2, 3, 5, 40, 400]);
+    let mut references = vec![first.clone()];
+    while references.len() < size {
+        let reference = match random.below(4) {
+            0 => fields::reference(random),
+            1 => fields::bad_station(random, 30),
+            _ => {
+                let mut near = first.clone();
+                let place = random.pick(&[0, 7, 9, 11, 12, 13, 14]);
+                near[place] = random.pick(b"0123456789");
+                near
+            }
+        };
+        references.push(reference);
+    }
+    references
+}

@@ -1,0 +1,129 @@
+//! What was met: how often each call gave each refusal, and each code.
+
+use std::collections::BTreeMap;
+use std::fmt;
+
+/// The refusals that each call can give, 0 for none.
+const REFUSALS: &[(&str, &[u8])] = &[
+    ("judge", &[0, 1, 2, 3]),
+    ("replace", &[0, 1, 2, 3, 4, 5, 6]),
+    ("show", &[0, 1, 2, 5, 8]),
+    ("station_code", &[0, 6, 9]),
+    ("header_code", &[0, 6, 9]),
+    ("respell_station", &[0, 6, 7, 9]),
+    ("respell_header", &[0, 6, 7, 9]),
+    ("set_power", &[0, 6, 9]),
+    ("set_azimuth", &[0, 6, 9]),
+    ("set_elevation", &[0, 6, 9]),
+    ("set_height", &[0, 6, 9]),
+    ("set_ground", &[0, 6, 9]),
+    #[cfg(feature = "lists")]
+    ("list_out", &[0, 6, 9, 12]),
+    #[cfg(feature = "lists")]
+    ("list_in", &[0, 7, 9, 10, 11]),
+];
+
+/// Counts of answers, by what was asked and what was given.
+#[derive(Default)]
+pub struct Tally {
+    refusals: BTreeMap<(&'static str, u8), u64>,
+    station_codes: BTreeMap<u8, u64>,
+    header_codes: BTreeMap<u8, u64>,
+    row_codes: BTreeMap<u8, u64>,
+    sheet_header_codes: BTreeMap<u8, u64>,
+    rows_written: BTreeMap<usize, u64>,
+    twins: u64,
+}
+
+impl Tally {
+    /// Counts a call and its refusal.
+    pub fn refusal(&mut self, call: &'static str, refusal: u8) {
+        *self.refusals.entry((call, refusal)).or_default() += 1;
+    }
+
+    /// Counts the code of one record.
+    pub fn code(&mut self, call: &'static str, code: u8) {
+        let codes = match call {
+            "station_code" => &mut self.station_codes,
+            "header_code" => &mut self.header_codes,
+            _ => return,
+        };
+        *codes.entry(code).or_default() += 1;
+    }
+
+    /// Counts the codes and twins of a judged sheet.
+    pub fn sheet(&mut self, sheet: &[u8]) {
+        let (rows, trailer) = sheet.split_at(sheet.len() - 8);
+        for row in rows.chunks_exact(2) {
+            *self.row_codes.entry(row[0]).or_default() += 1;
+            self.twins += u64::from(row[1] != 0);
+        }
+        *self.sheet_header_codes.entry(trailer[3]).or_default() += 1;
+    }
+
+    /// Counts the rows that a replacement wrote.
+    pub fn rows_written(&mut self, rows: usize) {
+        *self.rows_written.entry(rows).or_default() += 1;
+    }
+
+    /// How many calls were compared.
+    pub fn calls(&self) -> u64 {
+        self.refusals.values().sum()
+    }
+
+    /// Fails unless every refusal of every call and every code was met.
+    pub fn assert_complete(&self) {
+        for &(call, refusals) in REFUSALS {
+            for &refusal in refusals {
+                assert!(
+                    self.refusals.contains_key(&(call, refusal)),
+                    "{call} never gave refusal {refusal}"
+                );
+            }
+        }
+        assert_met("station_code", &self.station_codes, 39);
+        assert_met("header_code", &self.header_codes, 14);
+        assert_met("row", &self.row_codes, 39);
+        assert_met("sheet's header", &self.sheet_header_codes, 15);
+        assert!(self.twins > 0, "no twin was met");
+        for rows in 0..=2 {
+            assert!(self.rows_written.contains_key(&rows), "no replacement wrote {rows} rows");
+        }
+        let most = self.rows_written.keys().max().copied().unwrap_or(0);
+        assert!(most >= 100, "no replacement wrote many rows");
+    }
+}
+
+fn assert_met(what: &str, codes: &BTreeMap<u8, u64>, last: u8) {
+    for code in 0..=last {
+        assert!(codes.contains_key(&code), "{what}: code {code} was never given");
+    }
+}
+
+impl fmt::Display for Tally {
+    fn fmt(&self, f: &mut fmt::Formatter<'_>) -> fmt::Result {
+        for &(call, _) in REFUSALS {
+            write!(f, "{call:16}")?;
+            for (&(_, refusal), count) in
+                self.refusals.iter().filter(|((name, _), _)| *name == call)
+            {
+                write!(f, " {refusal}:{count}")?;
+            }
+            writeln!(f)?;
+        }
+        write_codes(f, "station codes", &self.station_codes)?;
+        write_codes(f, "header codes", &self.header_codes)?;
+        write_codes(f, "codes in rows", &self.row_codes)?;
+        write_codes(f, "codes in trailers", &self.sheet_header_codes)?;
+        let rows = self.rows_written.iter().map(|(rows, count)| *rows as u64 * count).sum::<u64>();
+        write!(f, "twins {}, rows written {rows}, calls {}", self.twins, self.calls())
+    }
+}
+
+fn write_codes(f: &mut fmt::Formatter<'_>, what: &str, codes: &BTreeMap<u8, u64>) -> fmt::Result {
+    write!(f, "{what:16}")?;
+    for (code, count) in codes {
+        write!(f, " {code}:{count}")?;
+    }
+    writeln!(f)
+}

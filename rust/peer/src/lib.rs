@@ -1,0 +1,35 @@
+//! Filing files of document 01, written a second time from the paper alone.
+//!
+//! A filing file is one header and up to 250 stations, each a record of 219 bytes. This crate
+//! reads and writes records, judges a file into a sheet, replaces a record, shows a field and
+//! turns stations into semicolon lines and back. It shares no line with the proved library; the
+//! two are compared on random input.
+//!
+//! ```
+//! let mut file = [b' '; 2 * 219];
+//! let mut sheet = [0; 10];
+//! peer::judge(&file, &mut sheet).unwrap();
+//! assert_eq!(sheet, [3, 0, 0, 10, 2, 1, 1, 1, b'2', b'A']);
+//! file[0] = b'1';
+//! assert_eq!(peer::judge(&file[..100], &mut sheet), Err(peer::Refusal::FileLength));
+//! ```
+
+#![forbid(unsafe_code)]
+
+mod columns;
+mod file;
+mod header;
+pub mod lists;
+mod reading;
+mod refusal;
+mod rules;
+mod spelling;
+mod station;
+mod values;
+
+pub use columns::{Record, HEADER_FIELDS, RECORD_LENGTH, STATION_FIELDS};
+pub use file::{judge, locate, replace, sheet_length, show, MAX_FILE_LENGTH, MAX_STATIONS};
+pub use header::{header_code, Header};
+pub use refusal::Refusal;
+pub use station::{station_code, Station};
+pub use values::{Date, Frequency, Kilometres, Metres, Place, Tenths, Unit};

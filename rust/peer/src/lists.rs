@@ -1,0 +1,74 @@
+//! Semicolon lists (wish 1 of 02): a station as one line, and back.
+//!
+//! A line is the thirty fields in column order, joined by semicolons and ended by a line feed.
+//! Spaces around a field are taken off, except in 13Z, whose inner places count.
+
+use crate::columns::{Record, RECORD_LENGTH, STATION_FIELDS};
+use crate::refusal::Refusal;
+use crate::station::Station;
+
+const SEPARATOR: u8 = b';';
+const END: u8 = b'\n';
+
+/// The code of 13Z, which goes out untrimmed.
+const REMARKS: usize = 26;
+
+/// The longest line that is written or read: all columns, 29 semicolons and the line feed.
+pub const MAX_LINE_LENGTH: usize = RECORD_LENGTH + STATION_FIELDS.len();
+
+/// Writes a station that breaks no rule as a line; answers its length, bytes after it stay.
+pub fn write_line(station: &Station, line: &mut [u8]) -> Result<usize, Refusal> {
+    let mut record = [b' '; RECORD_LENGTH];
+    station.write(&mut record)?;
+    let length = fields_out(&record).map(|field| field.len() + 1).sum();
+    let line = line.get_mut(..length).ok_or(Refusal::LineBuffer)?;
+    let mut rest = &mut *line;
+    for field in fields_out(&record) {
+        let (place, after) = rest.split_at_mut(field.len() + 1);
+        place[..field.len()].copy_from_slice(field);
+        place[field.len()] = SEPARATOR;
+        rest = after;
+    }
+    line[length - 1] = END;
+    Ok(length)
+}
+
+/// Reads a station that breaks no rule from a line, its fields in any accepted spelling.
+pub fn read_line(line: &[u8]) -> Result<Station, Refusal> {
+    let fields = line.strip_suffix(&[END]).ok_or(Refusal::LineShape)?;
+    let semicolons = fields.iter().filter(|&&byte| byte == SEPARATOR).count();
+    if fields.contains(&END) || semicolons != STATION_FIELDS.len() - 1 {
+        return Err(Refusal::LineShape);
+    }
+    let mut record = [b' '; RECORD_LENGTH];
+    for (index, field) in fields.split(|&byte| byte == SEPARATOR).enumerate() {
+        let [first, length] = STATION_FIELDS[index];
+        let padding = length.checked_sub(field.len()).ok_or(Refusal::FieldTooLong)?;
+        let start = first - 1 + if padded_left(index + 1) { padding } else { 0 };
+        record[start..start + field.len()].copy_from_slice(field);
+    }
+    Station::read(&record)
+}
+
+/// Whether the field is a whole number or decimal: 1A, 4D, 4Z, 8B1, 9A, 9B, 9G, 9Y, 1Y.
+fn padded_left(code: usize) -> bool {
+    matches!(code, 1 | 12 | 13 | 15 | 17 | 18 | 20 | 21 | 24)
+}
+
+/// The thirty fields of a record as they go into a line.
+fn fields_out(record: &Record) -> impl Iterator<Item = &[u8]> {
+    STATION_FIELDS.iter().enumerate().map(|(index, &[first, length])| {
+        let field = &record[first - 1..first - 1 + length];
+        if index + 1 == REMARKS {
+            field
+        } else {
+            trim(field)
+        }
+    })
+}
+
+fn trim(field: &[u8]) -> &[u8] {
+    let start = field.iter().position(|&byte| byte != b' ').unwrap_or(field.len());
+    let end = field.iter().rposition(|&byte| byte != b' ').map_or(start, |last| last + 1);
+    &field[start..end]
+}

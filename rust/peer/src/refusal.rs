@@ -1,0 +1,71 @@
+//! The reasons for which a call does nothing, by their numbers in 01 and in wish 1 of 02.
+
+use std::fmt;
+
+/// Why a call was refused; a refused call changes no lent byte.
+#[derive(Clone, Copy, Debug, PartialEq, Eq)]
+pub enum Refusal {
+    /// 1: the file is longer than 54,969 bytes.
+    FileTooLong,
+    /// 2: the file's length is zero or no multiple of 219.
+    FileLength,
+    /// 3: the lent sheet is not exactly 2n + 8 bytes.
+    SheetLength,
+    /// 4: the sheet's trailer lacks "2A", width 2 or distance 2n + 8.
+    SheetTrailer,
+    /// 5: the record number is above n.
+    NoSuchRecord,
+    /// 6: the record offered is not 219 bytes.
+    RecordLength,
+    /// 7: the buffer to write into is not 219 bytes.
+    BufferLength,
+    /// 8: there is no such field.
+    NoSuchField,
+    /// 9: a record or typed value breaks a rule, the first of them with this code.
+    Broken(u8),
+    /// 10: the line has not twenty-nine semicolons and one line feed as its last byte.
+    LineShape,
+    /// 11: a field of the line is longer than its columns.
+    FieldTooLong,
+    /// 12: the lent buffer is shorter than the line.
+    LineBuffer,
+}
+
+impl Refusal {
+    /// The refusal's number.
+    pub fn number(self) -> u8 {
+        match self {
+            Refusal::FileTooLong => 1,
+            Refusal::FileLength => 2,
+            Refusal::SheetLength => 3,
+            Refusal::SheetTrailer => 4,
+            Refusal::NoSuchRecord => 5,
+            Refusal::RecordLength => 6,
+            Refusal::BufferLength => 7,
+            Refusal::NoSuchField => 8,
+            Refusal::Broken(_) => 9,
+            Refusal::LineShape => 10,
+            Refusal::FieldTooLong => 11,
+            Refusal::LineBuffer => 12,
+        }
+    }
+
+    /// The code of the first broken rule, 0 with any refusal but 9.
+    pub fn code(self) -> u8 {
+        match self {
+            Refusal::Broken(code) => code,
+            _ => 0,
+        }
+    }
+}
+
+impl fmt::Display for Refusal {
+    fn fmt(&self, f: &mut fmt::Formatter<'_>) -> fmt::Result {
+        match self {
+            Refusal::Broken(code) => write!(f, "refused 9, code {code}"),
+            _ => write!(f, "refused {}", self.number()),
+        }
+    }
+}
+
+impl std::error::Error for Refusal {}
