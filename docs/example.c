@@ -1,0 +1,65 @@
+/*
+ * The desk from C: a filing judged, a field shown, a station replaced, and the sheet mended.
+ *
+ *     tools/hostlib target/host
+ *     cc -Iinclude docs/example.c target/host/libdesk_c.a -o target/host/example
+ *     target/host/example tests/desk/two_stations.in
+ */
+#include "desk.h"
+
+#include <stdio.h>
+#include <string.h>
+
+static uint8_t file[DESK_MAX_FILE_LENGTH + 1];
+static uint8_t sheet[DESK_SHEET_LENGTH(DESK_MAX_STATIONS)];
+
+/* Prints the sheet's bytes. */
+static void print_sheet(size_t length)
+{
+    for (size_t i = 0; i < length; i++)
+        printf("%02X%c", sheet[i], i + 1 < length ? ' ' : '\n');
+}
+
+int main(int count, char **words)
+{
+    FILE *input = count == 2 ? fopen(words[1], "rb") : NULL;
+    if (input == NULL) {
+        fprintf(stderr, "usage: example FILE\n");
+        return 2;
+    }
+    size_t length = fread(file, 1, sizeof file, input);
+    fclose(input);
+
+    /* A sheet has two bytes for each station and eight more. */
+    size_t stations = length / DESK_RECORD_LENGTH > 0 ? length / DESK_RECORD_LENGTH - 1 : 0;
+    size_t sheet_length = DESK_SHEET_LENGTH(stations);
+    if (sheet_length > sizeof sheet)
+        sheet_length = sizeof sheet;
+    uint8_t refusal = desk_judge(file, length, sheet, sheet_length);
+    if (refusal != DESK_DONE) {
+        printf("refused %u\n", refusal);
+        return 1;
+    }
+    print_sheet(sheet_length);
+
+    /* Field 30 of station 1 is its reference, 13X. */
+    size_t offset, field_length;
+    if (desk_show(file, length, 1, 30, &offset, &field_length) != DESK_DONE)
+        return 1;
+    printf("%.*s\n", (int)field_length, (const char *)file + offset);
+
+    /* Station 1 gets another reference, and the sheet is mended. */
+    uint8_t record[DESK_RECORD_LENGTH];
+    memcpy(record, file + DESK_RECORD_LENGTH, sizeof record);
+    record[DESK_RECORD_LENGTH - 1] = '2';
+    size_t rows;
+    refusal = desk_replace(file, length, sheet, sheet_length, 1, record, sizeof record, &rows);
+    printf("refused %u, rows %zu\n", refusal, rows);
+    print_sheet(sheet_length);
+
+    /* An azimuth of 360.0 breaks rule 17, and the record keeps its bytes. */
+    uint8_t code;
+    refusal = desk_set_azimuth(record, sizeof record, 1, 3600, &code);
+    printf("refused %u, code %u\n", refusal, code);
+    return 0;
+}
