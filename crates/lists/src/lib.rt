@@ -1,0 +1,17 @@
+// Stations as lines of a semicolon list, for owners who keep them in office software.
+
+// On which side a field that comes in short is padded; one that is kept goes out untrimmed and is padded on the right.
+pub enum Side {
+    Left,
+    Right,
+    Kept,
+}
+
+// A call on a line is done, or refused for the first reason that applies to it.
+pub enum Listed {
+    Done,
+    NotALine,
+    FieldTooLong,
+    BufferTooShort,
+    RuleBroken(u8),
+}
