@@ -1,1 +1,2 @@
 pub mod PadLaws
+pub mod LineLaws
