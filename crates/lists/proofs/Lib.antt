@@ -1,2 +1,3 @@
 pub mod PadLaws
 pub mod LineLaws
+pub mod PieceLaws
