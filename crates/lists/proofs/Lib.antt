@@ -1,3 +1,4 @@
 pub mod PadLaws
 pub mod LineLaws
 pub mod PieceLaws
+pub mod FieldPieces
