@@ -62,10 +62,10 @@ open-piece w p n e =
     let h = and-split (every plain p) (not (is " " (head p))) e in
     record { wide = n; stands = head-stands p (h .1); unmarked = h .0 }
 
--- one of some literals,
-abbrev pub allOpen : List String → Bool
-allOpen [] = true
-allOpen (x ∷ xs) = opens (bytes x) && allOpen xs
+-- one of some literals, which all pass a test,
+abbrev pub allPass : (List ℕ → Bool) → List String → Bool
+allPass test [] = true
+allPass test (x ∷ xs) = test (bytes x) && allPass test xs
 
 same-is : (x p : List ℕ) → same x p ≡ true → x ≡ p
 unfolding same
@@ -76,12 +76,12 @@ same-is (x ∷ xs) (c ∷ p) e =
     let h = and-split (eqb c x) (same xs p) e in
     ap (λ (y : ℕ). y ∷ xs) (sym (eqb-true c x (h .0))) ∙ ap (λ (l : List ℕ). c ∷ l) (same-is xs p (h .1))
 
-pub one-opens : (xs : List String) (p : List ℕ) → allOpen xs ≡ true → oneOf xs p ≡ true → opens p ≡ true
+pub one-passes : (test : List ℕ → Bool) (xs : List String) (p : List ℕ) → allPass test xs ≡ true → oneOf xs p ≡ true → test p ≡ true
 unfolding oneOf
-one-opens [] p h e = absurd (false≢true e)
-one-opens (x ∷ xs) p h e =
-    let g = and-split (opens (bytes x)) (allOpen xs) h in
-    either (same (bytes x) p) (oneOf xs p) e (λ f. ap opens (sym (same-is (bytes x) p f)) ∙ g .0) (λ f. one-opens xs p (g .1) f)
+one-passes test [] p h e = absurd (false≢true e)
+one-passes test (x ∷ xs) p h e =
+    let g = and-split (test (bytes x)) (allPass test xs) h in
+    either (same (bytes x) p) (oneOf xs p) e (λ f. ap test (sym (same-is (bytes x) p f)) ∙ g .0) (λ f. one-passes test xs p (g .1) f)
 
 -- and text with a test for each place
 abbrev pub allRefuse : List (ℕ → Bool) → Bool

@@ -2,3 +2,5 @@ pub mod PadLaws
 pub mod LineLaws
 pub mod PieceLaws
 pub mod FieldPieces
+pub mod TextPieces
+pub mod RoundTrip

@@ -135,7 +135,7 @@ unfolding every
 spaces-plain zero = refl
 spaces-plain (suc n) = spaces-plain n
 
-solid-plain : (c : ℕ) → solid c ≡ true → plain c ≡ true
+pub solid-plain : (c : ℕ) → solid c ≡ true → plain c ≡ true
 solid-plain c e = and-split (plain c) (not (is " " c)) e .0
 
 -- ---- solid fields stand on either side

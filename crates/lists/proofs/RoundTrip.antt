@@ -1,0 +1,189 @@
+-- A station and its line: what is written is read back.
+-- Assumes nothing.
+use mathlib.Core.Path.{_≡_, refl, sym, ap, _∙_}
+use mathlib.Core.Bool.{Bool, true, false, cond, _&&_}
+use mathlib.Core.List.{List, [], _∷_, _++_}
+use Prim.Native.Nat.{ℕ, _-_, _≤_}
+use native.Mathlib.Omega.{arith}
+use lib.Dec.{eqb, leb}
+use lib.ListN.{length, getD, drop}
+use borrow.Author.Tests.{eq-eqb, le-leb}
+use Rattle.columns.specs.Texts.{howMany}
+use Rattle.columns.proofs.TextLaws.{and-both}
+use Rattle.fields.specs.Codes.{isCategory, isCarrier, isBasis, isStatus}
+use Rattle.columns.specs.Sets.{among}
+use Rattle.filing.specs.Fields.{joined}
+use Rattle.filing.specs.Rules.{All}
+use Rattle.filing.proofs.RuleLaws.{all-hold, all-front, rule}
+use Rattle.station.specs.Places.{stationPlaces}
+use Rattle.station.specs.Rules.{channelRules, siteRules, emissionRules, antennaRules, filingRules, typedRules}
+use Rattle.station.specs.Between.{betweenRules}
+use Rattle.station.specs.Spelling.{channelPieces, sitePieces, emissionPieces, antennaPieces, filingPieces, stationPieces, spellStation}
+use Rattle.station.specs.Codes.{valueOf, stationCode, typedCode}
+use Rattle.station.specs.declared.Station.{Station}
+use Rattle.station.proofs.RoundTrip.{write-keeps, read-back}
+use Rattle.lists.specs.Fields.{stationSides, trimmedFields, paddedFields, noneLonger}
+use Rattle.lists.specs.Lines.{isSemicolon, isFeed, joinedLine, lineOf, split, lineFields, isLine, recordOf}
+use Rattle.lists.specs.Outcomes.{listedRefusal, ifListed, unbroken}
+use Rattle.lists.specs.Calls.{lineOutcome, stationInLine, writeLineOutcome, lineLength, writtenLine}
+use Rattle.lists.specs.declared.Listed.{Listed}
+use Rattle.lists.specs.declared.Listed.the-variants as listed
+use Rattle.lists.proofs.LineLaws.{AllPlain, lastByte, split-joined, semicolons, one-feed, feed-last}
+use Rattle.lists.proofs.PieceLaws.{Pieces, pieces-plain, pieces-short, pieces-back}
+use Rattle.lists.proofs.FieldPieces.{byte-piece, amount-piece, unit-piece, tenths-piece, radius-piece, ground-piece, height-piece, day-piece, position-piece}
+use Rattle.lists.proofs.TextPieces.{class-piece, service-piece, polarisation-piece, users-piece, name-piece, antenna-piece, reference-piece, country-piece, emission-piece, remarks-piece}
+
+-- thirty fields make a line
+marked : (ps : List (List ℕ)) → AllPlain ps → length ps ≡ 30 → isLine (joinedLine ps) ≡ true
+unfolding isLine
+marked [] h n = absurd (omega arith)
+marked (p ∷ ps) h n =
+    let t = joinedLine (p ∷ ps) in
+    let m : howMany isSemicolon t ≡ 29 = semicolons p ps h ∙ omega arith in
+    rw (eq-eqb (howMany isSemicolon t) 29 m, eq-eqb (howMany isFeed t) 1 (one-feed p ps h), eq-eqb (lastByte t) 10 (feed-last p ps))
+
+-- A typed station whose values keep their rules.
+module _ (s : Station) (h : All (typedRules s)) where
+  -- the rule of code k
+  holds : (k : ℕ) → getD (typedRules s) (k - 1) true ≡ true
+  holds = rule (typedRules s) h
+
+  -- each field is spelled on its padding side and without a mark
+  pieces-listed : Pieces stationSides stationPlaces (stationPieces s)
+  unfolding stationPieces channelPieces sitePieces emissionPieces antennaPieces filingPieces typedRules channelRules siteRules emissionRules antennaRules filingRules
+  pieces-listed = (
+    amount-piece (s .channel .transmit),
+    (
+      unit-piece (s .channel .transmit),
+      (
+        byte-piece isCategory (unfold isCategory in refl) (s .channel .category) (holds 3),
+        (
+          class-piece (s .channel .class) (holds 4),
+          (
+            service-piece (s .channel .service) (holds 5),
+            (
+              users-piece (s .channel .users) (holds 6),
+              (
+                byte-piece isCarrier (unfold isCarrier among in refl) (s .channel .carrier) (holds 7),
+                (
+                  day-piece (s .site .started),
+                  (
+                    name-piece (s .site .name) (holds 9),
+                    (
+                      country-piece (s .site .country) (holds 10),
+                      (
+                        position-piece (s .site .position) (holds 11),
+                        (
+                          radius-piece (s .site .radius),
+                          (
+                            height-piece (s .site .height),
+                            (
+                              emission-piece (s .emission .designation) (holds 14),
+                              (
+                                tenths-piece 3 1 true (s .emission .power),
+                                (
+                                  byte-piece isBasis (unfold isBasis among in refl) (s .emission .basis) (holds 16),
+                                  (
+                                    tenths-piece 3 1 false (s .emission .azimuth),
+                                    (
+                                      tenths-piece 2 1 true (s .emission .elevation),
+                                      (
+                                        polarisation-piece (s .antenna .polarisation) (holds 19),
+                                        (
+                                          tenths-piece 2 1 false (s .antenna .gain),
+                                          (
+                                            ground-piece (s .antenna .ground),
+                                            (
+                                              antenna-piece (s .antenna .horizontal) (holds 22),
+                                              (
+                                                antenna-piece (s .antenna .vertical) (holds 23),
+                                                (
+                                                  amount-piece (s .filing .receive),
+                                                  (
+                                                    unit-piece (s .filing .receive),
+                                                    (
+                                                      remarks-piece (s .filing .remarks) (holds 26),
+                                                      (
+                                                        byte-piece isStatus (unfold isStatus among in refl) (s .filing .status) (holds 27),
+                                                        (
+                                                          day-piece (s .filing .requested),
+                                                          (
+                                                            day-piece (s .filing .coordinated),
+                                                            (reference-piece (s .filing .reference) (holds 30), tt),
+                                                          ),
+                                                        ),
+                                                      ),
+                                                    ),
+                                                  ),
+                                                ),
+                                              ),
+                                            ),
+                                          ),
+                                        ),
+                                      ),
+                                    ),
+                                  ),
+                                ),
+                              ),
+                            ),
+                          ),
+                        ),
+                      ),
+                    ),
+                  ),
+                ),
+              ),
+            ),
+          ),
+        ),
+      ),
+    ),
+  )
+
+  -- the fields that go out hold no mark,
+  out-plain : AllPlain (trimmedFields stationSides (stationPieces s))
+  out-plain = pieces-plain stationSides stationPlaces (stationPieces s) pieces-listed
+
+  -- are found in the line again,
+  fields-found : lineFields (lineOf s) ≡ trimmedFields stationSides (stationPieces s)
+  unfolding lineFields lineOf stationPieces channelPieces sitePieces emissionPieces antennaPieces filingPieces
+  fields-found = split-joined (trimmedFields stationSides (stationPieces s)) out-plain
+
+  -- and are padded to the record again
+  record-found : recordOf (lineOf s) ≡ spellStation s
+  unfolding recordOf spellStation
+  record-found = rw fields-found (ap joined (pieces-back stationSides stationPlaces (stationPieces s) pieces-listed))
+
+  -- the line has its marks
+  line-marks : isLine (lineOf s) ≡ true
+  unfolding lineOf stationPieces channelPieces sitePieces emissionPieces antennaPieces filingPieces
+  line-marks = marked (trimmedFields stationSides (stationPieces s)) out-plain refl
+
+  -- and no field that is too long
+  line-short : noneLonger stationPlaces (lineFields (lineOf s)) ≡ true
+  line-short = rw fields-found (pieces-short stationSides stationPlaces (stationPieces s) pieces-listed)
+
+-- the rules of a station's values hold where it breaks none
+values-hold : (s : Station) → typedCode s ≡ 0 → All (typedRules s)
+unfolding typedCode
+values-hold s e = all-front (typedRules s) (betweenRules s) (all-hold 0 (typedRules s ++ betweenRules s) e)
+
+-- The record that a station's line says is the station's record,
+pub line-record : (s : Station) → typedCode s ≡ 0 → recordOf (lineOf s) ≡ spellStation s
+line-record s e = record-found s (values-hold s e)
+
+-- so a station that breaks no rule, written as a line, is not refused,
+pub line-done : (s : Station) → typedCode s ≡ 0 → lineOutcome (lineOf s) ≡ listed.Done
+unfolding lineOutcome unbroken
+line-done s e =
+    let h = values-hold s e in
+    rw (line-marks s h, line-short s h, line-record s e, write-keeps s e)
+
+-- and read back is the same station.
+pub line-back : (s : Station) → typedCode s ≡ 0 → stationInLine (lineOf s) ≡ s
+unfolding stationInLine ifListed listedRefusal
+line-back s e = rw (line-done s e, line-record s e) (read-back s e)
+
+-- Stations with one line are equal.
+pub one-line : (s t : Station) → typedCode s ≡ 0 → typedCode t ≡ 0 → lineOf s ≡ lineOf t → s ≡ t
+one-line s t e f g = sym (line-back s e) ∙ ap stationInLine g ∙ line-back t f
