@@ -1,19 +1,18 @@
 -- Each kind of field of a station is spelled with its spaces on its padding side and without a mark.
 -- Assumes nothing.
 use mathlib.Core.Path.{_≡_, refl, sym, ap, _∙_}
-use mathlib.Core.Bool.{Bool, true, false, cond, not, _&&_, _||_, false≢true, and-true}
-use mathlib.Core.List.{List, [], _∷_, _++_}
+use mathlib.Core.Bool.{Bool, true, false, cond, not, _&&_, false≢true, and-true}
+use mathlib.Core.List.{List, [], _∷_}
 use Prim.Native.Char.{Char, code}
 use Prim.Native.String.{String}
-use Prim.Native.Nat.{ℕ, zero, suc, _+_, _-_, _*_, _/_, _%_, _^_, _≤_, _<_}
+use Prim.Native.Nat.{ℕ, suc, _/_, _%_, _^_}
 use native.Mathlib.Omega.{arith}
 use lib.Dec.{eqb}
-use lib.ListN.{length, getD, take, drop, replicate, length-replicate, take-append-drop, drop-of-length-le}
-use lib.Seq.{drop-cons, drop-drop}
+use lib.ListN.{length, replicate, length-replicate}
 use lib.IntN.{ℤ, pos, negsuc, natAbs}
 use borrow.Author.Tests.{eqb-true}
-use Rattle.columns.specs.Sets.{is, among, isDigit, isUpper, isNarrow, isName, isText, isHex, between}
-use Rattle.columns.specs.Texts.{bytes, head, ended, skip, blank, trimmed, every, each, exactly, same, oneOf, sized, howMany}
+use Rattle.columns.specs.Sets.{is}
+use Rattle.columns.specs.Texts.{bytes, head, every, each, same, oneOf}
 use Rattle.columns.specs.Numbers.{spellDigits, spellWhole, spellSigned, isNegative}
 use Rattle.columns.specs.Decimals.{spellMagnitude, spellDecimal, decimalWidth}
 use Rattle.columns.specs.Dates.{spellDate, spellDay}
@@ -21,7 +20,7 @@ use Rattle.columns.specs.declared.dates.Day.{Day}
 use Rattle.columns.specs.declared.dates.Day.the-variants as day
 use Rattle.columns.proofs.TextLaws.{and-split, and-both}
 use Rattle.columns.proofs.RoundTrip.{spelled-length, decimal-length}
-use Rattle.columns.proofs.ColumnLaws.{either, each-sized, day-column}
+use Rattle.columns.proofs.ColumnLaws.{either}
 use Rattle.fields.specs.Tenths.{spellTenths}
 use Rattle.fields.specs.Frequencies.{spellAmount, spellUnit, unitLetter}
 use Rattle.fields.specs.Distances.{spellRadius, spellGround, spellHeight}

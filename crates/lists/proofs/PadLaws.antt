@@ -1,17 +1,17 @@
 -- A field whose spaces were taken off and that is padded again is the field as it was, over side and width.
 -- Assumes nothing.
 use mathlib.Core.Path.{_≡_, refl, sym, ap, _∙_}
-use mathlib.Core.Bool.{Bool, true, false, cond, not, _&&_, _||_, false≢true}
+use mathlib.Core.Bool.{Bool, true, false, cond, not, false≢true}
 use mathlib.Core.List.{List, [], _∷_, _++_, append-nil}
 use Prim.Native.Nat.{ℕ, zero, suc, _-_, _≤_}
 use native.Mathlib.Omega.{arith}
 use native.Mathlib.Nat.{sub-self, sub-zero}
 use lib.Dec.{eqb}
-use lib.ListN.{length, replicate, length-append}
-use borrow.Author.Tests.{ne-eqb, eqb-true}
+use lib.ListN.{length, replicate}
+use borrow.Author.Tests.{eqb-true}
 use Rattle.columns.specs.Sets.{is}
-use Rattle.columns.specs.Texts.{head, ended, skip, blank, trimmed, every}
-use Rattle.columns.proofs.TextLaws.{and-split, and-both, cond-case}
+use Rattle.columns.specs.Texts.{head, ended, skip, blank, trimmed}
+use Rattle.columns.proofs.TextLaws.{cond-case}
 use Rattle.columns.proofs.ColumnLaws.{skip-spaces}
 use Rattle.lists.specs.Fields.{trimmedField, missing, paddedField}
 use Rattle.lists.specs.declared.Side.{Side}

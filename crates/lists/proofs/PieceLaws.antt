@@ -1,26 +1,22 @@
 -- A field that has its columns' width, its spaces on its padding side and no mark in it, and what follows for a line of such fields.
 -- Assumes nothing.
 use mathlib.Core.Path.{_≡_, refl, sym, ap, _∙_}
-use mathlib.Core.Bool.{Bool, true, false, cond, not, _&&_, _||_, false≢true}
+use mathlib.Core.Bool.{Bool, true, false, cond, not, _&&_, false≢true}
 use mathlib.Core.List.{List, [], _∷_, _++_}
-use Prim.Native.String.{String}
-use Prim.Native.Nat.{ℕ, zero, suc, _+_, _-_, _/_, _%_, _≤_}
+use Prim.Native.Nat.{ℕ, zero, suc, _+_, _/_, _%_}
 use native.Mathlib.Omega.{arith}
-use native.Mathlib.Decide.{ℕ-discrete}
 use lib.Dec.{eqb, leb}
-use lib.ListN.{length, replicate, length-replicate}
-use borrow.Author.Tests.{eq-eqb, ne-eqb, eqb-true, le-leb}
+use lib.ListN.{length, replicate}
+use borrow.Author.Tests.{ne-eqb, le-leb}
 use Rattle.columns.specs.Sets.{is, isDigit}
-use Rattle.columns.specs.Texts.{bytes, head, ended, skip, blank, trimmed, every, each, same, oneOf}
+use Rattle.columns.specs.Texts.{skip, blank, trimmed, every}
 use Rattle.columns.specs.Numbers.{spellDigits}
 use Rattle.columns.proofs.TextLaws.{and-split, and-both, cond-case}
 use Rattle.columns.proofs.RoundTrip.{digit-is}
-use Rattle.columns.proofs.ColumnLaws.{either}
-use Rattle.lists.specs.Fields.{trimmedField, paddedField, trimmedFields, paddedFields, noneLonger}
-use Rattle.lists.specs.Lines.{isMark}
+use Rattle.lists.specs.Fields.{trimmedField, trimmedFields, paddedFields, noneLonger}
 use Rattle.lists.specs.declared.Side.{Side}
 use Rattle.lists.specs.declared.Side.the-variants as side
-use Rattle.lists.proofs.PadLaws.{Stands, pad-back, goes-out, head-stands}
+use Rattle.lists.proofs.PadLaws.{Stands, pad-back, goes-out}
 use Rattle.lists.proofs.LineLaws.{plain, AllPlain}
 
 -- A field of w columns as it is spelled.

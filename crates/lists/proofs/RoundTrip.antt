@@ -1,15 +1,15 @@
 -- A station and its line: what is written is read back.
 -- Assumes nothing.
 use mathlib.Core.Path.{_≡_, refl, sym, ap, _∙_}
-use mathlib.Core.Bool.{Bool, true, false, cond, _&&_}
+use mathlib.Core.Bool.{Bool, true, false, cond}
 use mathlib.Core.List.{List, [], _∷_, _++_}
 use Prim.Native.Nat.{ℕ, _-_, _≤_}
 use native.Mathlib.Omega.{arith}
-use lib.Dec.{eqb, leb}
-use lib.ListN.{length, getD, drop}
-use borrow.Author.Tests.{eq-eqb, le-leb}
+use lib.Dec.{leb, eqb}
+use lib.ListN.{length, getD, take, drop, length-append, length-drop}
+use lib.Seq.{take-at}
+use borrow.Author.Tests.{eq-eqb, le-leb, leb-true}
 use Rattle.columns.specs.Texts.{howMany}
-use Rattle.columns.proofs.TextLaws.{and-both}
 use Rattle.fields.specs.Codes.{isCategory, isCarrier, isBasis, isStatus}
 use Rattle.columns.specs.Sets.{among}
 use Rattle.filing.specs.Fields.{joined}
@@ -19,14 +19,13 @@ use Rattle.station.specs.Places.{stationPlaces}
 use Rattle.station.specs.Rules.{channelRules, siteRules, emissionRules, antennaRules, filingRules, typedRules}
 use Rattle.station.specs.Between.{betweenRules}
 use Rattle.station.specs.Spelling.{channelPieces, sitePieces, emissionPieces, antennaPieces, filingPieces, stationPieces, spellStation}
-use Rattle.station.specs.Codes.{valueOf, stationCode, typedCode}
+use Rattle.station.specs.Codes.{typedCode}
 use Rattle.station.specs.declared.Station.{Station}
 use Rattle.station.proofs.RoundTrip.{write-keeps, read-back}
-use Rattle.lists.specs.Fields.{stationSides, trimmedFields, paddedFields, noneLonger}
-use Rattle.lists.specs.Lines.{isSemicolon, isFeed, joinedLine, lineOf, split, lineFields, isLine, recordOf}
+use Rattle.lists.specs.Fields.{stationSides, trimmedFields, noneLonger}
+use Rattle.lists.specs.Lines.{isSemicolon, isFeed, joinedLine, lineOf, lineFields, isLine, recordOf}
 use Rattle.lists.specs.Outcomes.{listedRefusal, ifListed, unbroken}
 use Rattle.lists.specs.Calls.{lineOutcome, stationInLine, writeLineOutcome, lineLength, writtenLine}
-use Rattle.lists.specs.declared.Listed.{Listed}
 use Rattle.lists.specs.declared.Listed.the-variants as listed
 use Rattle.lists.proofs.LineLaws.{AllPlain, lastByte, split-joined, semicolons, one-feed, feed-last}
 use Rattle.lists.proofs.PieceLaws.{Pieces, pieces-plain, pieces-short, pieces-back}
@@ -187,3 +186,32 @@ line-back s e = rw (line-done s e, line-record s e) (read-back s e)
 -- Stations with one line are equal.
 pub one-line : (s t : Station) → typedCode s ≡ 0 → typedCode t ≡ 0 → lineOf s ≡ lineOf t → s ≡ t
 one-line s t e f g = sym (line-back s e) ∙ ap stationInLine g ∙ line-back t f
+
+-- ---- what writing leaves
+
+-- A station that breaks no rule is written into a buffer that is as long as its line or longer,
+pub write-done : (s : Station) (buffer : List ℕ) → typedCode s ≡ 0 → length (lineOf s) ≤ length buffer → writeLineOutcome s buffer ≡ listed.Done
+unfolding writeLineOutcome unbroken
+write-done s buffer e n = rw (e, le-leb (length (lineOf s)) (length buffer) n)
+
+-- and the bytes up to the length that is answered are its line,
+pub write-line : (s : Station) (buffer : List ℕ) → typedCode s ≡ 0 → length (lineOf s) ≤ length buffer → take (lineLength s buffer) (writtenLine s buffer) ≡ lineOf s
+unfolding lineLength writtenLine ifListed listedRefusal
+write-line s buffer e n = rw (write-done s buffer e n) (take-at (lineOf s) (drop (length (lineOf s)) buffer) (length (lineOf s)) refl)
+
+-- so that they are read as the station.
+pub write-back : (s : Station) (buffer : List ℕ) → typedCode s ≡ 0 → length (lineOf s) ≤ length buffer → stationInLine (take (lineLength s buffer) (writtenLine s buffer)) ≡ s
+write-back s buffer e n = rw (write-line s buffer e n) (line-back s e)
+
+-- The buffer keeps its length.
+same-length : (line buffer : List ℕ) (k : ℕ) (z b : Bool) → leb (length line) (length buffer) ≡ b
+    → length (ifListed (cond z (cond b listed.Done listed.BufferTooShort) (listed.RuleBroken k)) (line ++ drop (length line) buffer) buffer) ≡ length buffer
+unfolding ifListed listedRefusal
+same-length line buffer k true true e =
+    omega (arith, length-append line (drop (length line) buffer), length-drop (length line) buffer, leb-true (length line) (length buffer) e)
+same-length line buffer k true false e = refl
+same-length line buffer k false b e = refl
+
+pub write-length : (s : Station) (buffer : List ℕ) → length (writtenLine s buffer) ≡ length buffer
+unfolding writtenLine writeLineOutcome unbroken
+write-length s buffer = same-length (lineOf s) buffer (typedCode s) (eqb (typedCode s) 0) (leb (length (lineOf s)) (length buffer)) refl

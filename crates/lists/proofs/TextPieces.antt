@@ -1,16 +1,16 @@
 -- Each field that is kept as its bytes stands on its padding side and holds no mark where it keeps its rule.
 -- Assumes nothing.
 use mathlib.Core.Path.{_≡_, refl, sym, ap, _∙_}
-use mathlib.Core.Bool.{Bool, true, false, cond, not, _&&_, _||_, false≢true, and-true}
+use mathlib.Core.Bool.{Bool, true, false, cond, not, _&&_, _||_, false≢true}
 use mathlib.Core.List.{List, [], _∷_, _++_}
-use Prim.Native.Nat.{ℕ, zero, suc, _+_, _-_, _≤_, _<_}
+use Prim.Native.Nat.{ℕ, suc, _+_, _-_, _≤_, _<_}
 use native.Mathlib.Omega.{arith}
 use lib.Dec.{eqb}
 use lib.ListN.{length, getD, take, drop, replicate, take-append-drop, drop-of-length-le, length-drop}
 use lib.Seq.{drop-cons, drop-drop, length-take-le}
 use borrow.Author.Tests.{eqb-true}
 use Rattle.columns.specs.Sets.{is, among, between, isDigit, isUpper, isNarrow, isName, isText, isHex}
-use Rattle.columns.specs.Texts.{head, ended, skip, blank, trimmed, every, each, exactly, oneOf, sized, howMany}
+use Rattle.columns.specs.Texts.{head, skip, blank, trimmed, every, exactly, oneOf, sized, howMany}
 use Rattle.columns.proofs.TextLaws.{and-split, and-both}
 use Rattle.columns.proofs.NumberLaws.{digit-range}
 use Rattle.columns.proofs.ColumnLaws.{either}
@@ -23,7 +23,7 @@ use Rattle.lists.specs.Fields.{missing}
 use Rattle.lists.specs.declared.Side.the-variants as side
 use Rattle.lists.proofs.PadLaws.{skip-pads, trim-pads, blank-spaces}
 use Rattle.lists.proofs.LineLaws.{plain}
-use Rattle.lists.proofs.PieceLaws.{Piece, solid, refusesMarks, not-this, plain-byte, solid-byte, every-more, every-append, spaces-plain, solid-plain}
+use Rattle.lists.proofs.PieceLaws.{Piece, solid, not-this, plain-byte, solid-byte, every-more, every-append, spaces-plain, solid-plain}
 use Rattle.lists.proofs.FieldPieces.{opens, open-piece, one-passes, each-opens}
 
 -- 6A, 6B, 9D: one of some literals

@@ -1,6 +1,6 @@
 -- Small fields and lines, computed.
 use mathlib.Core.Path.{_≡_, refl}
-use mathlib.Core.Bool.{true, false}
+use mathlib.Core.Bool.{false}
 use mathlib.Core.List.{[], _∷_}
 use Rattle.columns.specs.Texts.{bytes, skip, trimmed, howMany}
 use Rattle.lists.specs.Fields.{trimmedField, paddedField}
