@@ -4,3 +4,4 @@ pub mod PieceLaws
 pub mod FieldPieces
 pub mod TextPieces
 pub mod RoundTrip
+pub mod Reading
