@@ -5,3 +5,4 @@ pub mod FieldPieces
 pub mod TextPieces
 pub mod RoundTrip
 pub mod Reading
+pub mod CountLaws

@@ -1,5 +1,8 @@
 // Stations as lines of a semicolon list, for owners who keep them in office software.
 
+pub mod marks;
+pub mod trimming;
+
 // On which side a field that comes in short is padded; one that is kept goes out untrimmed and is padded on the right.
 pub enum Side {
     Left,
