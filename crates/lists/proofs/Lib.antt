@@ -6,3 +6,4 @@ pub mod TextPieces
 pub mod RoundTrip
 pub mod Reading
 pub mod CountLaws
+pub mod MarkLaws
