@@ -7,3 +7,6 @@ pub mod RoundTrip
 pub mod Reading
 pub mod CountLaws
 pub mod MarkLaws
+pub mod FillLaws
+pub mod CallLaws
+pub mod Unique

@@ -23,14 +23,14 @@ use Rattle.lists.specs.declared.Listed.the-variants as listed
 use Rattle.lists.proofs.RoundTrip.{line-back}
 
 -- a field that is not too long is padded to its columns
-padded-length : (s : Side) (w : ℕ) (p : List ℕ) → length p ≤ w → length (paddedField s w p) ≡ w
+pub padded-length : (s : Side) (w : ℕ) (p : List ℕ) → length p ≤ w → length (paddedField s w p) ≡ w
 unfolding paddedField
 padded-length side.Left w p h = omega (arith, length-append (missing w p) p, length-replicate {A = ℕ} (w - length p) 32)
 padded-length side.Right w p h = omega (arith, length-append p (missing w p), length-replicate {A = ℕ} (w - length p) 32)
 padded-length side.Kept w p h = omega (arith, length-append p (missing w p), length-replicate {A = ℕ} (w - length p) 32)
 
 -- the columns of all places
-abbrev columnsOf : List (ℕ × ℕ) → ℕ
+abbrev pub columnsOf : List (ℕ × ℕ) → ℕ
 columnsOf [] = 0
 columnsOf (q ∷ qs) = q .1 + columnsOf qs
 

@@ -59,6 +59,12 @@ paddedField side.Left w p = missing w p ++ p
 paddedField side.Right w p = p ++ missing w p
 paddedField side.Kept w p = p ++ missing w p
 
+-- How many spaces stand before a field of n bytes in w columns.
+unfoldable pub spacesBefore : Side → ℕ → ℕ → ℕ
+spacesBefore side.Left w n = w - n
+spacesBefore side.Right w n = 0
+spacesBefore side.Kept w n = 0
+
 -- Fields as they go out, each on its own terms.
 abbrev pub trimmedFields : List Side → List (List ℕ) → List (List ℕ)
 trimmedFields [] ps = []

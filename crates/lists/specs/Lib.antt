@@ -2,4 +2,5 @@ pub mod Fields
 pub mod Lines
 pub mod Outcomes
 pub mod Calls
+pub mod Promises
 pub mod Examples

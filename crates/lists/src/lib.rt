@@ -1,6 +1,10 @@
 // Stations as lines of a semicolon list, for owners who keep them in office software.
 
 pub mod marks;
+mod outcomes;
+mod padding;
+pub mod reading_lines;
+pub mod splitting;
 pub mod trimming;
 
 // On which side a field that comes in short is padded; one that is kept goes out untrimmed and is padded on the right.

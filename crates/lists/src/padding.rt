@@ -1,0 +1,93 @@
+// Fields on their way in.
+use crate::Side;
+use columns::texts::write_blank;
+use columns::texts::write_text;
+use station::places::station_place;
+ghost use mathlib.Core.Path.{_≡_};
+ghost use mathlib.Core.List.{_++_};
+ghost use Prim.Native.Nat.{_+_, _≤_, _<_};
+ghost use lib.ListN.{length, getD, take, drop};
+ghost use Rattle.station.specs.Places.{stationPlaces};
+ghost use Rattle.lists.specs.Fields.{stationSides, spacesBefore, paddedField};
+ghost use Rattle.lists.specs.declared.Side.the-variants as side;
+
+// On which side each of the thirty fields is padded.
+const SIDES: [Side; 30] = [
+    Side::Left,
+    Side::Right,
+    Side::Right,
+    Side::Right,
+    Side::Right,
+    Side::Right,
+    Side::Right,
+    Side::Right,
+    Side::Right,
+    Side::Right,
+    Side::Right,
+    Side::Left,
+    Side::Left,
+    Side::Right,
+    Side::Left,
+    Side::Right,
+    Side::Left,
+    Side::Left,
+    Side::Right,
+    Side::Left,
+    Side::Left,
+    Side::Right,
+    Side::Right,
+    Side::Left,
+    Side::Right,
+    Side::Kept,
+    Side::Right,
+    Side::Right,
+    Side::Right,
+    Side::Right,
+];
+
+// The side of the field that k fields stand before.
+pub(crate) fn side_after(k: usize) -> Side
+    requires { ⌜ k < 30 ⌝ }
+    ensures { λ r. ⌜ r ≡ getD stationSides k side.Left ⌝ }
+{
+    SIDES[k]
+}
+
+// The columns of the field that k fields stand before.
+pub(crate) fn width_after(k: usize) -> usize
+    requires { ⌜ k < 30 ⌝ }
+    ensures { λ r. ⌜ r ≡ getD stationPlaces k (0, 0) .1 ⌝ }
+{
+    station_place(k + 1).length
+}
+
+// How many spaces stand before a field of n bytes in w columns.
+fn spaces_before(side: Side, w: usize, n: usize) -> usize
+    requires { ⌜ n ≤ w ⌝ }
+    ensures { λ r. ⌜ r ≡ spacesBefore side w n ⌝ }
+{
+    match side {
+        Side::Left => w - n,
+        Side::Right => 0,
+        Side::Kept => 0,
+    }
+}
+
+// Puts a text into lent bytes, from the given place on.
+pub(crate) fn put_text(out: &mut [u8], start: usize, text: &[u8])
+    requires { ⌜ start + length (now text) ≤ length (now out) ⌝ }
+    ensures { λ _. ⌜ now (out .exit) ≡ take start (now (out .entry)) ++ (now (text .entry) ++ drop (start + length (now (text .entry))) (now (out .entry))) ⌝ }
+{
+    let end = start + text.len();
+    write_text(&mut out[start..end], text);
+}
+
+// A field that is not too long in its columns, padded on its side.
+pub(crate) fn put_padded(columns: &mut [u8], field: &[u8], side: Side)
+    requires { ⌜ length (now field) ≤ length (now columns) ⌝ }
+    ensures { λ _. ⌜ now (columns .exit) ≡ paddedField side (length (now (columns .entry))) (now (field .entry)) ⌝ }
+{
+    let start = spaces_before(side, columns.len(), field.len());
+    write_blank(columns);
+    put_text(columns, start, field);
+}
