@@ -8,5 +8,6 @@ pub mod Reading
 pub mod CountLaws
 pub mod MarkLaws
 pub mod FillLaws
+pub mod OutLaws
 pub mod CallLaws
 pub mod Unique

@@ -6,6 +6,7 @@ mod padding;
 pub mod reading_lines;
 pub mod splitting;
 pub mod trimming;
+pub mod writing_lines;
 
 // On which side a field that comes in short is padded; one that is kept goes out untrimmed and is padded on the right.
 pub enum Side {
