@@ -1,26 +1,29 @@
 -- How a call on a line ends, by the tests that it passes.
 -- Assumes nothing.
 use mathlib.Core.Path.{_≡_, refl, sym, ap, _∙_}
-use mathlib.Core.Bool.{Bool, true, false, cond}
-use mathlib.Core.List.{List}
-use Prim.Native.Nat.{ℕ}
-use lib.Dec.{eqb}
-use lib.ListN.{length}
-use borrow.Author.Tests.{eq-eqb, eqb-true}
+use mathlib.Core.Bool.{Bool, true, false}
+use mathlib.Core.List.{List, _++_}
+use Prim.Native.Nat.{ℕ, _≤_, _<_}
+use lib.Dec.{leb, eqb}
+use lib.ListN.{length, take, drop}
+use lib.Seq.{length-take-le}
+use borrow.Author.Tests.{eq-eqb, ne-eqb, eqb-true, lt-leb}
 use Rattle.filing.specs.Fields.{recordLength}
 use Rattle.filing.specs.Outcomes.{refusal, codeWith, ifDone, judged}
 use Rattle.filing.specs.declared.Outcome.{Outcome}
 use Rattle.station.specs.Places.{stationPlaces}
 use Rattle.station.specs.Values.{emptyStation}
-use Rattle.station.specs.Codes.{valueOf, stationCode}
-use Rattle.station.specs.Calls.{readOutcome, readStation}
+use Rattle.station.specs.Codes.{valueOf, stationCode, typedCode}
+use Rattle.station.specs.Spelling.{spellStation}
+use Rattle.station.specs.Calls.{readOutcome, readStation, writeOutcome, writtenStation}
 use Rattle.station.specs.declared.Station.{Station}
 use Rattle.lists.specs.Fields.{noneLonger}
-use Rattle.lists.specs.Lines.{lineFields, isLine, recordOf}
+use Rattle.lists.specs.Lines.{lineOf, lineFields, isLine, recordOf}
 use Rattle.lists.specs.Outcomes.{listedRefusal, ifListed, unbroken}
-use Rattle.lists.specs.Calls.{lineOutcome, stationInLine}
+use Rattle.lists.specs.Calls.{lineOutcome, stationInLine, writeLineOutcome, lineLength, writtenLine}
 use Rattle.lists.specs.declared.Listed.{Listed}
 use Rattle.lists.specs.declared.Listed.the-variants as listed
+use Rattle.lists.proofs.RoundTrip.{write-done}
 use Rattle.lists.proofs.Reading.{record-length}
 
 -- The code that comes with an outcome is the one that it was judged by.
@@ -62,3 +65,38 @@ module _ (t : List ℕ) where
         ea ∙ rw (ec, judge, code-back k, e, f),
         es ∙ rw (is, size, e, f) (same-answer k (valueOf (recordOf t)) emptyStation),
       )
+
+-- A station that breaks no rule is written into a buffer of 219 bytes.
+pub record-written : (s : Station) (before after : List ℕ) → length before ≡ recordLength → typedCode s ≡ 0 → after ≡ writtenStation s before → after ≡ spellStation s
+unfolding writtenStation writeOutcome judged ifDone refusal
+record-written s before after n e w = w ∙ rw (eq-eqb (length before) recordLength n, e)
+
+-- How writing a station into a buffer ends, and what is answered and left.
+abbrev Ends : Station → List ℕ → Listed → ℕ → List ℕ → Type 0
+Ends s buffer answer n after = (answer ≡ writeLineOutcome s buffer) × (n ≡ lineLength s buffer) × (after ≡ writtenLine s buffer)
+
+module _ (s : Station) (buffer : List ℕ) where
+  -- One that breaks a rule is refused,
+  pub rule-broken : (a : ℕ) → a ≡ typedCode s → (a ≡ 0 → ⊥) → Ends s buffer (listed.RuleBroken a) 0 buffer
+  unfolding writeLineOutcome lineLength writtenLine unbroken ifListed listedRefusal
+  rule-broken a e n =
+      let z : eqb (typedCode s) 0 ≡ false = ne-eqb (typedCode s) 0 (λ q. n (e ∙ q)) in
+      (rw (z, e), rw z, rw z)
+
+  module _ (z : typedCode s ≡ 0) (line : List ℕ) (n : ℕ) (inside : n ≤ length line) (is : take n line ≡ lineOf s) where
+    size : n ≡ length (lineOf s)
+    size = sym (length-take-le n line inside) ∙ ap length is
+
+    -- one whose line is longer than the buffer is,
+    pub no-room : length buffer < n → Ends s buffer listed.BufferTooShort 0 buffer
+    unfolding writeLineOutcome lineLength writtenLine unbroken ifListed listedRefusal
+    no-room h =
+        let long : leb (length (lineOf s)) (length buffer) ≡ false = lt-leb (length (lineOf s)) (length buffer) (rw (← size) h) in
+        (rw (z, long), rw (z, long), rw (z, long))
+
+    -- and any other is written.
+    pub line-written : n ≤ length buffer → (after : List ℕ) → after ≡ take n line ++ drop n buffer → Ends s buffer listed.Done n after
+    unfolding lineLength writtenLine ifListed listedRefusal
+    line-written h after e =
+        let done : writeLineOutcome s buffer ≡ listed.Done = write-done s buffer z (rw (← size) h) in
+        (sym done, rw done size, e ∙ rw (done, is, size))

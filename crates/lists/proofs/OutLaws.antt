@@ -1,11 +1,11 @@
 -- The fields of a record put into a line one after the other, each with the mark behind it.
 -- Assumes nothing.
 use mathlib.Core.Path.{_≡_, refl, sym, ap, _∙_}
-use mathlib.Core.Bool.{Bool, true, cond, _&&_}
+use mathlib.Core.Bool.{true, cond}
 use mathlib.Core.List.{List, [], _∷_, _++_, append-assoc, append-nil}
-use Prim.Native.Nat.{ℕ, zero, suc, _+_, _-_, _≤_, _<_}
+use Prim.Native.Nat.{ℕ, suc, _+_, _-_, _≤_, _<_}
 use native.Mathlib.Omega.{arith}
-use native.Mathlib.Nat.{add-sub-cancel-left}
+use native.Mathlib.Nat.{zero-add, add-sub-cancel-left}
 use native.Mathlib.Numerals.{add-one}
 use lib.Dec.{eqb}
 use lib.ListN.{length, getD, take, drop, set, length-append, length-drop, drop-of-length-le}
@@ -30,6 +30,10 @@ marked-behind out put text at mark h e =
     let front : take (at + length text) put ≡ take at out ++ text = ap (take (at + length text)) grouped ∙ take-at (take at out ++ text) rest (at + length text) size in
     let inside : at + length text < length put = omega (arith, ap length grouped, length-append (take at out ++ text) rest, size, length-drop (at + length text) out) in
     rw (add-one (at + length text)) (take-suc-set put (at + length text) mark inside ∙ ap (λ (l : List ℕ). l ++ (mark ∷ [])) front ∙ append-assoc (take at out) text (mark ∷ []))
+
+-- The first bytes of a text, put in first.
+pub first-put : (out text : List ℕ) (n : ℕ) → n ≤ length text → take 0 out ++ (take n text ++ drop (0 + length (take n text)) out) ≡ take n text ++ drop n out
+first-put out text n h = rw (length-take-le n text h, zero-add n)
 
 -- The mark behind field k of n and one.
 abbrev pub markOf : ℕ → ℕ → ℕ

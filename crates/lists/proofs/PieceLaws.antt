@@ -13,6 +13,7 @@ use Rattle.columns.specs.Texts.{skip, blank, trimmed, every}
 use Rattle.columns.specs.Numbers.{spellDigits}
 use Rattle.columns.proofs.TextLaws.{and-split, and-both, cond-case}
 use Rattle.columns.proofs.RoundTrip.{digit-is}
+use Rattle.filing.proofs.FieldLaws.{Wide}
 use Rattle.lists.specs.Fields.{trimmedField, trimmedFields, paddedFields, noneLonger}
 use Rattle.lists.specs.declared.Side.{Side}
 use Rattle.lists.specs.declared.Side.the-variants as side
@@ -53,7 +54,16 @@ out-plain side.Left p e = every-trimmed plain (skip p) (every-skip plain p e)
 out-plain side.Right p e = every-trimmed plain (skip p) (every-skip plain p e)
 out-plain side.Kept p e = e
 
--- Such fields go out without a mark,
+-- Such fields have the widths of their places,
+pub pieces-wide : (ss : List Side) (qs : List (ℕ × ℕ)) (ps : List (List ℕ)) → Pieces ss qs ps → Wide qs ps
+pieces-wide [] [] [] h = tt
+pieces-wide [] [] (p ∷ ps) h = absurd h
+pieces-wide [] (q ∷ qs) ps h = absurd h
+pieces-wide (s ∷ ss) [] ps h = absurd h
+pieces-wide (s ∷ ss) (q ∷ qs) [] h = absurd h
+pieces-wide (s ∷ ss) (q ∷ qs) (p ∷ ps) h = (h .0 .wide, pieces-wide ss qs ps (h .1))
+
+-- go out without a mark,
 pub pieces-plain : (ss : List Side) (qs : List (ℕ × ℕ)) (ps : List (List ℕ)) → Pieces ss qs ps → AllPlain (trimmedFields ss ps)
 pieces-plain [] [] [] h = tt
 pieces-plain [] [] (p ∷ ps) h = absurd h

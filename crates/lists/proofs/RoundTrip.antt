@@ -12,10 +12,11 @@ use borrow.Author.Tests.{eq-eqb, le-leb, leb-true}
 use Rattle.columns.specs.Texts.{howMany}
 use Rattle.fields.specs.Codes.{isCategory, isCarrier, isBasis, isStatus}
 use Rattle.columns.specs.Sets.{among}
-use Rattle.filing.specs.Fields.{joined}
+use Rattle.filing.specs.Fields.{cut, joined}
 use Rattle.filing.specs.Rules.{All}
+use Rattle.filing.proofs.FieldLaws.{cut-joined}
 use Rattle.filing.proofs.RuleLaws.{all-hold, all-front, rule}
-use Rattle.station.specs.Places.{stationPlaces}
+use Rattle.station.specs.Places.{stationPlaces, fieldsOf}
 use Rattle.station.specs.Rules.{channelRules, siteRules, emissionRules, antennaRules, filingRules, typedRules}
 use Rattle.station.specs.Between.{betweenRules}
 use Rattle.station.specs.Spelling.{channelPieces, sitePieces, emissionPieces, antennaPieces, filingPieces, stationPieces, spellStation}
@@ -28,7 +29,7 @@ use Rattle.lists.specs.Outcomes.{listedRefusal, ifListed, unbroken}
 use Rattle.lists.specs.Calls.{lineOutcome, stationInLine, writeLineOutcome, lineLength, writtenLine}
 use Rattle.lists.specs.declared.Listed.the-variants as listed
 use Rattle.lists.proofs.LineLaws.{AllPlain, lastByte, split-joined, semicolons, one-feed, feed-last}
-use Rattle.lists.proofs.PieceLaws.{Pieces, pieces-plain, pieces-short, pieces-back}
+use Rattle.lists.proofs.PieceLaws.{Pieces, pieces-wide, pieces-plain, pieces-short, pieces-back}
 use Rattle.lists.proofs.FieldPieces.{byte-piece, amount-piece, unit-piece, tenths-piece, radius-piece, ground-piece, height-piece, day-piece, position-piece}
 use Rattle.lists.proofs.TextPieces.{class-piece, service-piece, polarisation-piece, users-piece, name-piece, antenna-piece, reference-piece, country-piece, emission-piece, remarks-piece}
 
@@ -170,6 +171,13 @@ values-hold s e = all-front (typedRules s) (betweenRules s) (all-hold 0 (typedRu
 -- The record that a station's line says is the station's record,
 pub line-record : (s : Station) → typedCode s ≡ 0 → recordOf (lineOf s) ≡ spellStation s
 line-record s e = record-found s (values-hold s e)
+
+-- from whose fields the line is made,
+pub record-line : (s : Station) → typedCode s ≡ 0 → joinedLine (trimmedFields stationSides (fieldsOf (spellStation s))) ≡ lineOf s
+unfolding fieldsOf spellStation lineOf
+record-line s e =
+    let back : cut stationPlaces (joined (stationPieces s)) ≡ stationPieces s = cut-joined [] 1 stationPlaces (stationPieces s) refl refl (pieces-wide stationSides stationPlaces (stationPieces s) (pieces-listed s (values-hold s e))) in
+    ap (λ (ps : List (List ℕ)). joinedLine (trimmedFields stationSides ps)) back
 
 -- so a station that breaks no rule, written as a line, is not refused,
 pub line-done : (s : Station) → typedCode s ≡ 0 → lineOutcome (lineOf s) ≡ listed.Done

@@ -2,9 +2,15 @@
 use Prim.Native.Nat.{ℕ}
 use mathlib.Core.Path.{_≡_}
 use mathlib.Core.List.{List}
-use Rattle.lists.specs.Calls.{lineOutcome, stationInLine}
+use Rattle.station.specs.declared.Station.{Station}
+use Rattle.lists.specs.Calls.{lineOutcome, stationInLine, writeLineOutcome, lineLength, writtenLine}
 use Rattle.lists.specs.declared.reading_lines.ReadLine.{ReadLine}
+use Rattle.lists.specs.declared.writing_lines.WrittenLine.{WrittenLine}
 
 -- `read_line` on a line: how it ends, and the station that it hands back.
 abbrev pub LineRead : List ℕ → ReadLine → Type 0
 LineRead t answer = (answer .outcome ≡ lineOutcome t) × (answer .station ≡ stationInLine t)
+
+-- `write_line` of a station into a buffer: how it ends, the line's length, and what the buffer holds after it.
+abbrev pub LineWritten : Station → List ℕ → WrittenLine → List ℕ → Type 0
+LineWritten s before answer after = (answer .outcome ≡ writeLineOutcome s before) × (answer .length ≡ lineLength s before) × (after ≡ writtenLine s before)

@@ -1,9 +1,13 @@
 // Writing a line: a station as its owner keeps it.
+use crate::Listed;
 use crate::Side;
 use crate::padding::put_text;
 use crate::padding::side_after;
 use crate::padding::width_after;
 use crate::trimming::trimmed_part;
+use station::Station;
+use station::typed::typed_code;
+use writing::write_station;
 ghost use mathlib.Core.Path.{_≡_};
 ghost use mathlib.Core.Bool.{cond};
 ghost use mathlib.Core.List.{[], _∷_, _++_};
@@ -12,7 +16,15 @@ ghost use lib.Dec.{eqb};
 ghost use lib.ListN.{length, take, drop};
 ghost use Rattle.station.specs.Places.{fieldsOf};
 ghost use Rattle.lists.specs.Fields.{stationSides, trimmedField, trimmedFields};
-ghost use Rattle.lists.specs.Lines.{joinedLine};
+ghost use Rattle.station.specs.Codes.{typedCode};
+ghost use Rattle.lists.specs.Lines.{joinedLine, lineOf};
+ghost use Rattle.lists.specs.Promises.{LineWritten};
+
+// How writing a line ends, and the line's length; 0 on a refusal.
+pub struct WrittenLine {
+    pub outcome: Listed,
+    pub length: usize,
+}
 
 // A field as it goes out, a part of its columns.
 fn outgoing(field: &[u8], side: Side) -> &[u8]
@@ -62,4 +74,49 @@ fn put_line(rec: &[u8], out: &mut [u8]) -> usize
         k += 1;
     }
     at
+}
+
+// Puts the line of a station that breaks no rule into lent bytes, and answers its length.
+fn spell_line(s: Station, out: &mut [u8]) -> usize
+    requires { ⌜ (length (now out) ≡ 249) × (typedCode s ≡ 0) ⌝ }
+    ensures { λ r. ⌜ (r ≤ 249) × (take r (now (out .exit)) ≡ lineOf s) ⌝ }
+{
+    let mut rec = [b' '; 219];
+    write_station(s, &mut rec);
+    put_line(&rec, out)
+}
+
+// Puts the first n bytes of a text first into lent bytes.
+fn put_first(out: &mut [u8], text: &[u8], n: usize)
+    requires { ⌜ (n ≤ length (now text)) × (n ≤ length (now out)) ⌝ }
+    ensures { λ _. ⌜ now (out .exit) ≡ take n (now (text .entry)) ++ drop n (now (out .entry)) ⌝ }
+{
+    put_text(out, 0, &text[..n]);
+}
+
+// Writes a station as a line; it is refused where it breaks a rule, or where the lent buffer is shorter than the line, and
+// then nothing is written.
+pub fn write_line(s: Station, buffer: &mut [u8]) -> WrittenLine
+    ensures { λ r. ⌜ LineWritten s (now (buffer .entry)) r (now (buffer .exit)) ⌝ }
+{
+    let code = typed_code(s);
+    if code != 0 {
+        return WrittenLine {
+            outcome: Listed::RuleBroken(code),
+            length: 0,
+        };
+    }
+    let mut line = [b' '; 249];
+    let n = spell_line(s, &mut line);
+    if buffer.len() < n {
+        return WrittenLine {
+            outcome: Listed::BufferTooShort,
+            length: 0,
+        };
+    }
+    put_first(buffer, &line, n);
+    WrittenLine {
+        outcome: Listed::Done,
+        length: n,
+    }
 }

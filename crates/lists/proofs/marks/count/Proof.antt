@@ -1,6 +1,6 @@
 -- `lists::marks::count` meets its contract: what was counted, and what is still to come, are all. Assumes nothing.
 use Prim.Native.Nat.{_+_, _-_, _≤_}
-use mathlib.Core.Path.{_≡_, sym, _∙_}
+use mathlib.Core.Path.{_≡_}
 use lib.Dec.{eqb}
 use lib.ListN.{length, drop}
 use Rattle.columns.specs.Texts.{howMany}

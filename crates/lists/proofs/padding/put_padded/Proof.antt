@@ -1,6 +1,6 @@
 -- `lists::padding::put_padded` meets its contract: the field stands where it is put into blank columns. Assumes nothing.
 use denote.Ref.{now}
-use mathlib.Core.Path.{_≡_, ap, _∙_}
+use mathlib.Core.Path.{ap, _∙_}
 use Prim.Native.Nat.{_+_, _≤_}
 use lib.ListN.{length, length-replicate}
 use Rattle.lists.specs.Fields.{spacesBefore}

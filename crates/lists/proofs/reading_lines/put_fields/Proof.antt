@@ -1,9 +1,9 @@
 -- `lists::reading_lines::put_fields` meets its contract: so many fields stand, and the others are still to come. Assumes nothing.
 use denote.Ref.{now}
-use mathlib.Core.Path.{_≡_, refl, sym, ap, _∙_}
+use mathlib.Core.Path.{_≡_, refl, sym, _∙_}
 use mathlib.Core.Bool.{false≢true}
 use Prim.Native.Nat.{_+_, _-_, _≤_, _<_}
-use lib.ListN.{length, getD, take, drop}
+use lib.ListN.{length, getD, drop}
 use Rattle.station.specs.Places.{stationPlaces}
 use Rattle.lists.specs.Fields.{stationSides}
 use Rattle.lists.specs.Lines.{before, lineFields, recordOf}

@@ -1,5 +1,5 @@
 -- `lists::splitting::field_at` meets its contract. Assumes nothing.
-use mathlib.Core.Path.{_≡_, sym, ap, _∙_}
+use mathlib.Core.Path.{sym}
 use lib.Seq.{length-take-le}
 use Rattle.columns.proofs.TextLaws.{from-on}
 use Rattle.lists.proofs.FillLaws.{field-found}

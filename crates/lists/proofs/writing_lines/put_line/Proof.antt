@@ -1,8 +1,8 @@
 -- `lists::writing_lines::put_line` meets its contract: so many fields stand, and the others are still to come. Assumes nothing.
 use denote.Ref.{now}
-use mathlib.Core.Path.{_≡_, refl, sym, ap, _∙_}
-use Prim.Native.Nat.{_+_, _-_, _≤_, _<_}
-use lib.ListN.{length, getD, take, drop}
+use mathlib.Core.Path.{_≡_, refl}
+use Prim.Native.Nat.{_+_, _-_, _≤_}
+use lib.ListN.{length, getD}
 use Rattle.station.specs.Places.{stationPlaces, fieldsOf}
 use Rattle.lists.specs.Fields.{stationSides}
 use Rattle.lists.proofs.OutLaws.{Lined, none-lined, line-inside, all-lined, next-inside, mark-room, next-lined}
