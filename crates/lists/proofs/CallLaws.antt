@@ -84,6 +84,7 @@ module _ (s : Station) (buffer : List ℕ) where
       (rw (z, e), rw z, rw z)
 
   module _ (z : typedCode s ≡ 0) (line : List ℕ) (n : ℕ) (inside : n ≤ length line) (is : take n line ≡ lineOf s) where
+    -- The line's length is answered;
     size : n ≡ length (lineOf s)
     size = sym (length-take-le n line inside) ∙ ap length is
 

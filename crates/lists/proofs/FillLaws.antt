@@ -23,18 +23,21 @@ pub no-last : (t : List ℕ) → length t ≡ 0 → 0 ≡ getD t (length t - 1) 
 no-last [] e = refl
 no-last (c ∷ t) e = absurd (omega arith)
 
--- some of w spaces, and the others
+-- So many spaces,
 abbrev spaces : ℕ → List ℕ
 spaces n = replicate n 32
 
+-- in two parts,
 spaces-split : (a b : ℕ) → spaces (a + b) ≡ spaces a ++ spaces b
 spaces-split a b = sym (replicate-append-replicate {A = ℕ} a b 32)
 
+-- of which the first
 pub take-spaces : (a w : ℕ) → a ≤ w → take a (spaces w) ≡ spaces a
 take-spaces a w h =
     let e : w ≡ a + (w - a) = omega arith in
     ap (λ (n : ℕ). take a (spaces n)) e ∙ ap (take a) (spaces-split a (w - a)) ∙ take-at (spaces a) (spaces (w - a)) a (length-replicate {A = ℕ} a 32)
 
+-- and the last are spaces too.
 pub drop-spaces : (a w : ℕ) → a ≤ w → drop a (spaces w) ≡ spaces (w - a)
 drop-spaces a w h =
     let e : w ≡ a + (w - a) = omega arith in
@@ -106,14 +109,17 @@ pub record Filled (ss : List Side) (qs : List (ℕ × ℕ)) (line rec : List ℕ
 
 -- the first of the fields that are still to come
 module _ (q : ℕ × ℕ) (qs : List (ℕ × ℕ)) (n : ℕ) (t : List ℕ) where
+  -- fits,
   fits-here : (next : List ℕ) → length (before t) ≤ q .1 → next ≡ behind t → noneLonger (q ∷ qs) (split (suc n) t) ≡ noneLonger qs (split n next)
   unfolding split
   fits-here next h e = rw (le-leb (length (before t)) (q .1) h, e)
 
+  -- or is too long,
   too-long : q .1 < length (before t) → noneLonger (q ∷ qs) (split (suc n) t) ≡ false
   unfolding split
   too-long h = rw (lt-leb (length (before t)) (q .1) h)
 
+  -- and stands before the others.
   field-first : (s : Side) (ss : List Side) (next : List ℕ) → next ≡ behind t → joined (paddedFields (s ∷ ss) (q ∷ qs) (split (suc n) t)) ≡ paddedField s (q .1) (before t) ++ joined (paddedFields ss qs (split n next))
   unfolding split
   field-first s ss next e = rw e
@@ -130,10 +136,11 @@ none-filled ss qs line rec e =
     }
 
 module _ (ss : List Side) (qs : List (ℕ × ℕ)) (line rec : List ℕ) (k at column : ℕ) (f : Filled ss qs line rec k at column) (l : length ss ≡ length qs) where
-  -- At the end all fields are.
+  -- At the end all fields fit,
   pub all-fit : length qs ≤ k → noneLonger qs (split (length qs) line) ≡ true
   all-fit h = f .fit ∙ rw (drop-of-length-le qs {i = k} h)
 
+  -- and make the record.
   pub all-filled : length qs ≤ k → rec ≡ joined (paddedFields ss qs (split (length qs) line))
   all-filled h =
       let none : drop k qs ≡ [] = drop-of-length-le qs {i = k} h in
@@ -146,13 +153,15 @@ module _ (ss : List Side) (qs : List (ℕ × ℕ)) (line rec : List ℕ) (k at c
     abbrev place : ℕ × ℕ
     place = getD qs k (0, 0)
 
+    -- with those behind it,
     next-place : drop k qs ≡ place ∷ drop (suc k) qs
     next-place = drop-cons qs k (0, 0) h
 
+    -- and how many they are,
     left : length qs - k ≡ suc (length qs - suc k)
     left = omega arith
 
-    -- which has its columns in the record
+    -- has its columns in the record.
     pub next-room : column + place .1 ≤ length rec
     next-room =
         let whole : column + columnsOf (drop k qs) ≡ length rec = f .room in

@@ -46,6 +46,7 @@ line-first p [] k n e =
     rw (eq-eqb k n last)
 line-first p (q ∷ ps) k n e = rw (ne-eqb k n (λ z. omega arith))
 
+-- As many fields go out as there are places.
 trimmed-count : (ss : List Side) (qs : List (ℕ × ℕ)) (r : List ℕ) → length ss ≡ length qs → length (trimmedFields ss (cut qs r)) ≡ length qs
 trimmed-count [] [] r e = refl
 trimmed-count [] (q ∷ qs) r e = absurd (omega arith)
@@ -81,34 +82,39 @@ module _ (ss : List Side) (qs : List (ℕ × ℕ)) (rec out : List ℕ) (k colum
   all-lined h = sym (f .is ∙ rw (drop-of-length-le ss {i = k} (omega arith)) (append-nil (take at out)))
 
   module _ (h : k < length qs) where
+    -- The next place,
     abbrev next : ℕ × ℕ
     next = getD qs k (0, 0)
 
+    -- with those behind it,
     next-place : drop k qs ≡ next ∷ drop (suc k) qs
     next-place = drop-cons qs k (0, 0) h
 
-    -- The next field has its columns in the record,
+    -- has its columns in the record,
     pub next-inside : column + next .1 ≤ length rec
     next-inside =
         let whole : column + columnsOf (drop k qs) ≡ length rec = f .place in
         omega (arith, rw next-place at whole)
 
+    -- right behind those before it.
     tiled : (eqb (next .0) (column + 1) ≡ true) × (tilesFrom (column + 1 + next .1) (drop (suc k) qs) ≡ true)
     tiled =
         let t : tilesFrom (column + 1) (drop k qs) ≡ true = f .tiles in
         and-split (eqb (next .0) (column + 1)) (tilesFrom (column + 1 + next .1) (drop (suc k) qs)) (rw next-place at t)
 
     module _ (w : ℕ) (s : Side) (text : List ℕ) (ew : w ≡ next .1) (es : s ≡ getD ss k side.Left) (et : text ≡ trimmedField s (take (column + w - column) (drop column rec))) where
-      -- where it is found,
+      -- The field is found there,
       found : take (column + w - column) (drop column rec) ≡ piece rec next
       found =
           let first : next .0 ≡ column + 1 = eqb-true (next .0) (column + 1) (tiled .0) in
           let back : next .0 - 1 ≡ column = omega (arith, first) in
           rw (add-sub-cancel-left column w, ew, back)
 
+      -- its text goes out,
       goes : text ≡ trimmedField (getD ss k side.Left) (piece rec next)
       goes = et ∙ rw (found, es)
 
+      -- no longer than its columns,
       text-size : length text ≤ next .1
       text-size =
           let inside : column + w ≤ length rec = rw ew next-inside in
@@ -117,7 +123,7 @@ module _ (ss : List Side) (qs : List (ℕ × ℕ)) (rec out : List ℕ) (k colum
           let out' : length text ≤ length (take (column + w - column) (drop column rec)) = rw et (goes-out s (take (column + w - column) (drop column rec))) in
           omega (arith, ew, part, out')
 
-      -- and room for its text and the mark.
+      -- and there is room for it and the mark.
       pub mark-room : at + length text < length out
       mark-room =
           let r : at + columnsOf (drop k qs) + length (drop k qs) ≤ length out = f .room in

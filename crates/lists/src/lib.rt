@@ -1,11 +1,11 @@
 // Stations as lines of a semicolon list, for owners who keep them in office software.
 
-pub mod marks;
+mod marks;
 mod outcomes;
 mod padding;
 pub mod reading_lines;
-pub mod splitting;
-pub mod trimming;
+mod splitting;
+mod trimming;
 pub mod writing_lines;
 
 // On which side a field that comes in short is padded; one that is kept goes out untrimmed and is padded on the right.

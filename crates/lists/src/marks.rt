@@ -7,7 +7,7 @@ ghost use Rattle.columns.specs.Texts.{howMany};
 ghost use Rattle.lists.specs.Lines.{isMark, before, behind};
 
 // How many bytes of a line are the given one.
-pub fn count(line: &[u8], mark: u8) -> usize
+pub(crate) fn count(line: &[u8], mark: u8) -> usize
     ensures { λ r. ⌜ r ≡ howMany (λ c. eqb c mark) (now (line .entry)) ⌝ }
 {
     let mut n: usize = 0;
@@ -23,7 +23,7 @@ pub fn count(line: &[u8], mark: u8) -> usize
 }
 
 // A field ends before it.
-pub fn is_mark(c: u8) -> bool
+pub(crate) fn is_mark(c: u8) -> bool
     ensures { λ r. ⌜ r ≡ isMark c ⌝ }
 {
     if c == b';' {
@@ -33,7 +33,7 @@ pub fn is_mark(c: u8) -> bool
 }
 
 // How many bytes stand before the first mark of a text; behind it the next field begins.
-pub fn field_length(s: &[u8]) -> usize
+pub(crate) fn field_length(s: &[u8]) -> usize
     ensures { λ r. ⌜ (r ≤ length (now (s .entry))) × (before (now (s .entry)) ≡ take r (now (s .entry))) × (behind (now (s .entry)) ≡ drop (r + 1) (now (s .entry))) ⌝ }
 {
     let mut i: usize = 0;

@@ -11,38 +11,38 @@ ghost use Rattle.station.specs.Places.{stationPlaces};
 ghost use Rattle.lists.specs.Fields.{stationSides, spacesBefore, paddedField};
 ghost use Rattle.lists.specs.declared.Side.the-variants as side;
 
-// On which side each of the thirty fields is padded.
+// On which side each of the thirty fields is padded, in column order.
 const SIDES: [Side; 30] = [
-    Side::Left,
-    Side::Right,
-    Side::Right,
-    Side::Right,
-    Side::Right,
-    Side::Right,
-    Side::Right,
-    Side::Right,
-    Side::Right,
-    Side::Right,
-    Side::Right,
-    Side::Left,
-    Side::Left,
-    Side::Right,
-    Side::Left,
-    Side::Right,
-    Side::Left,
-    Side::Left,
-    Side::Right,
-    Side::Left,
-    Side::Left,
-    Side::Right,
-    Side::Right,
-    Side::Left,
-    Side::Right,
-    Side::Kept,
-    Side::Right,
-    Side::Right,
-    Side::Right,
-    Side::Right,
+    Side::Left, // 1A
+    Side::Right, // the unit of 1A
+    Side::Right, // 1Z
+    Side::Right, // 6A
+    Side::Right, // 6B
+    Side::Right, // 6Z
+    Side::Right, // 10Z
+    Side::Right, // 2C
+    Side::Right, // 4A
+    Side::Right, // 4B
+    Side::Right, // 4C
+    Side::Left, // 4D
+    Side::Left, // 4Z
+    Side::Right, // 7A
+    Side::Left, // 8B1
+    Side::Right, // 8B2
+    Side::Left, // 9A
+    Side::Left, // 9B
+    Side::Right, // 9D
+    Side::Left, // 9G
+    Side::Left, // 9Y
+    Side::Right, // 9XH
+    Side::Right, // 9XV
+    Side::Left, // 1Y
+    Side::Right, // the unit of 1Y
+    Side::Kept, // 13Z
+    Side::Right, // 13Y
+    Side::Right, // 2W
+    Side::Right, // 2Z
+    Side::Right, // 13X
 ];
 
 // The side of the field that k fields stand before.

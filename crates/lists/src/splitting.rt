@@ -19,7 +19,7 @@ fn last_byte(line: &[u8]) -> u8
 }
 
 // Twenty-nine semicolons and one line feed, the last byte.
-pub fn is_line(line: &[u8]) -> bool
+pub(crate) fn is_line(line: &[u8]) -> bool
     ensures { λ r. ⌜ r ≡ isLine (now (line .entry)) ⌝ }
 {
     if count(line, b';') != 29 {

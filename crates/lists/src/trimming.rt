@@ -5,7 +5,7 @@ ghost use mathlib.Core.Path.{_≡_};
 ghost use Rattle.columns.specs.Texts.{skip, trimmed};
 
 // The part of a field without its leading and trailing spaces.
-pub fn trimmed_part(field: &[u8]) -> &[u8]
+pub(crate) fn trimmed_part(field: &[u8]) -> &[u8]
     ensures { λ r. ⌜ now r ≡ trimmed (skip (now (field .entry))) ⌝ }
 {
     let first = spaces(field);
