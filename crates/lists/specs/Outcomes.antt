@@ -8,6 +8,8 @@ use Rattle.lists.specs.declared.Listed.the-variants as listed
 -- The refusal's number; 0 where the call is done.
 unfoldable pub listedRefusal : Listed → ℕ
 listedRefusal listed.Done = 0
+listedRefusal listed.RecordLength = 6
+listedRefusal listed.BufferLength = 7
 listedRefusal listed.NotALine = 10
 listedRefusal listed.FieldTooLong = 11
 listedRefusal listed.BufferTooShort = 12
@@ -16,6 +18,8 @@ listedRefusal (listed.RuleBroken c) = 9
 -- The code that comes with it; with any but 9 it is 0.
 unfoldable pub listedCode : Listed → ℕ
 listedCode listed.Done = 0
+listedCode listed.RecordLength = 0
+listedCode listed.BufferLength = 0
 listedCode listed.NotALine = 0
 listedCode listed.FieldTooLong = 0
 listedCode listed.BufferTooShort = 0

@@ -3,7 +3,8 @@ use Prim.Native.Nat.{ℕ}
 use mathlib.Core.Path.{_≡_}
 use mathlib.Core.List.{List}
 use Rattle.station.specs.declared.Station.{Station}
-use Rattle.lists.specs.Calls.{lineOutcome, stationInLine, writeLineOutcome, lineLength, writtenLine}
+use Rattle.lists.specs.Calls.{lineOutcome, stationInLine, writeLineOutcome, lineLength, writtenLine, recordListing, listedLength, listedRecord, lineFiling, filedLine}
+use Rattle.lists.specs.declared.Listed.{Listed}
 use Rattle.lists.specs.declared.reading_lines.ReadLine.{ReadLine}
 use Rattle.lists.specs.declared.writing_lines.WrittenLine.{WrittenLine}
 
@@ -14,3 +15,11 @@ LineRead t answer = (answer .outcome ≡ lineOutcome t) × (answer .station ≡ 
 -- `write_line` of a station into a buffer: how it ends, the line's length, and what the buffer holds after it.
 abbrev pub LineWritten : Station → List ℕ → WrittenLine → List ℕ → Type 0
 LineWritten s before answer after = (answer .outcome ≡ writeLineOutcome s before) × (answer .length ≡ lineLength s before) × (after ≡ writtenLine s before)
+
+-- `record_to_line` of a record into a buffer: how it ends, the line's length, and what the buffer holds after it.
+abbrev pub RecordListed : List ℕ → List ℕ → WrittenLine → List ℕ → Type 0
+RecordListed r before answer after = (answer .outcome ≡ recordListing r before) × (answer .length ≡ listedLength r before) × (after ≡ listedRecord r before)
+
+-- `line_to_record` of a line into 219 lent bytes: how it ends, and what they hold after it.
+abbrev pub LineFiled : List ℕ → List ℕ → Listed → List ℕ → Type 0
+LineFiled t before answer after = (answer ≡ lineFiling t before) × (after ≡ filedLine t before)

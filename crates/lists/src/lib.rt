@@ -1,9 +1,10 @@
 // Stations as lines of a semicolon list, for owners who keep them in office software.
 
 mod marks;
-mod outcomes;
+pub mod outcomes;
 mod padding;
 pub mod reading_lines;
+pub mod records;
 mod splitting;
 mod trimming;
 pub mod writing_lines;
@@ -18,6 +19,8 @@ pub enum Side {
 // A call on a line is done, or refused for the first reason that applies to it.
 pub enum Listed {
     Done,
+    RecordLength,
+    BufferLength,
     NotALine,
     FieldTooLong,
     BufferTooShort,

@@ -94,18 +94,11 @@ fn put_first(out: &mut [u8], text: &[u8], n: usize)
     put_text(out, 0, &text[..n]);
 }
 
-// Writes a station as a line; it is refused where it breaks a rule, or where the lent buffer is shorter than the line, and
-// then nothing is written.
-pub fn write_line(s: Station, buffer: &mut [u8]) -> WrittenLine
+// Writes a station that breaks no rule as a line; it is refused where the lent buffer is shorter than the line.
+pub(crate) fn write_accepted(s: Station, buffer: &mut [u8]) -> WrittenLine
+    requires { ⌜ typedCode s ≡ 0 ⌝ }
     ensures { λ r. ⌜ LineWritten s (now (buffer .entry)) r (now (buffer .exit)) ⌝ }
 {
-    let code = typed_code(s);
-    if code != 0 {
-        return WrittenLine {
-            outcome: Listed::RuleBroken(code),
-            length: 0,
-        };
-    }
     let mut line = [b' '; 249];
     let n = spell_line(s, &mut line);
     if buffer.len() < n {
@@ -119,4 +112,19 @@ pub fn write_line(s: Station, buffer: &mut [u8]) -> WrittenLine
         outcome: Listed::Done,
         length: n,
     }
+}
+
+// Writes a station as a line; it is refused where it breaks a rule, or where the lent buffer is shorter than the line, and
+// then nothing is written.
+pub fn write_line(s: Station, buffer: &mut [u8]) -> WrittenLine
+    ensures { λ r. ⌜ LineWritten s (now (buffer .entry)) r (now (buffer .exit)) ⌝ }
+{
+    let code = typed_code(s);
+    if code != 0 {
+        return WrittenLine {
+            outcome: Listed::RuleBroken(code),
+            length: 0,
+        };
+    }
+    write_accepted(s, buffer)
 }
