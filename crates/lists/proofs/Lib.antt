@@ -10,4 +10,5 @@ pub mod MarkLaws
 pub mod FillLaws
 pub mod OutLaws
 pub mod CallLaws
+pub mod RecordLaws
 pub mod Unique

@@ -62,4 +62,4 @@ lineFiling t out = cond (sized recordLength out) (lineOutcome t) listed.BufferLe
 
 -- It leaves the one spelling of the line's station, and on a refusal every byte as it was.
 unfoldable pub filedLine : List ℕ → List ℕ → List ℕ
-filedLine t out = ifListed (lineFiling t out) (spellStation (valueOf (recordOf t))) out
+filedLine t out = ifListed (lineFiling t out) (spellStation (stationInLine t)) out
