@@ -1,8 +1,10 @@
 -- The promises of the calls on a line leave one answer, and one content of the lent bytes.
 -- Assumes nothing.
 use mathlib.Core.Path.{_≡_, sym, _∙_}
+use mathlib.Core.Bool.{Bool}
 use mathlib.Core.List.{List}
 use Prim.Native.Nat.{ℕ}
+use lib.Dec.{eqb}
 use Rattle.station.specs.declared.Station.{Station}
 use Rattle.lists.specs.Outcomes.{listedRefusal, listedCode}
 use Rattle.lists.specs.Promises.{LineRead, LineWritten, RecordListed, LineFiled}
@@ -37,3 +39,7 @@ one-number o a b p q = p ∙ sym q
 -- and one code.
 pub one-code : (o : Listed) (a b : ℕ) → a ≡ listedCode o → b ≡ listedCode o → a ≡ b
 one-code o a b p q = p ∙ sym q
+
+-- Whether it is done has one answer too.
+pub one-test : (o : Listed) (a b : Bool) → a ≡ eqb (listedRefusal o) 0 → b ≡ eqb (listedRefusal o) 0 → a ≡ b
+one-test o a b p q = p ∙ sym q

@@ -35,17 +35,17 @@ pub fn record_to_line(rec: &[u8], buffer: &mut [u8]) -> WrittenLine
 
 // Writes the station of a line as a record; it is refused where the lent bytes are not 219, or where reading the line is, and
 // then nothing is written.
-pub fn line_to_record(line: &[u8], rec: &mut [u8]) -> Listed
-    ensures { λ r. ⌜ LineFiled (now (line .entry)) (now (rec .entry)) r (now (rec .exit)) ⌝ }
+pub fn line_to_record(line: &[u8], out: &mut [u8]) -> Listed
+    ensures { λ r. ⌜ LineFiled (now (line .entry)) (now (out .entry)) r (now (out .exit)) ⌝ }
 {
-    if rec.len() != 219 {
+    if out.len() != 219 {
         return Listed::BufferLength;
     }
     let read = read_line(line);
     let outcome = read.outcome;
     let station = read.station;
     if is_listed(outcome) {
-        write_station(station, rec);
+        write_station(station, out);
     }
     outcome
 }
