@@ -22,6 +22,11 @@ use Rattle.station.specs.Between.{mobile, roundAntenna, firstBetween, lastBetwe
 use Rattle.station.specs.Values.{stationOf}
 use Rattle.station.specs.Spelling.{channelPieces, sitePieces, emissionPieces, antennaPieces, filingPieces, stationPieces, spellStation}
 use Rattle.station.specs.Codes.{valueOf, stationCode, typedCode}
+use Rattle.lists.specs.Fields.{trimmedField, paddedField}
+use Rattle.lists.specs.Lines.{lineOf, before, behind, split, lineFields, isLine}
+use Rattle.lists.specs.Lines as lines
+use Rattle.lists.specs.Outcomes.{listedRefusal, listedCode, ifListed, unbroken}
+use Rattle.lists.specs.Calls.{lineOutcome, stationInLine}
 use Rattle.header.specs.Places.{headerFields}
 use Rattle.header.specs.Values.{serialGood, serialOf, headerOf}
 use Rattle.header.specs.Rules.{headerRules}
@@ -67,6 +72,30 @@ spelledS =
     "00893.20000" ∷ "M" ∷ "                                                  " ∷ "B" ∷ "        " ∷ "        " ∷ "AUT2311AB01A001" ∷
     []
 
+-- A text as a line.
+abbrev pub line : String → List ℕ
+line t = bytes t ++ (10 ∷ [])
+
+-- Station S as it goes out.
+abbrev pub lineS : List ℕ
+lineS = line "00938.20000;M;2;FB;CP;L;1;01032021;1010_MUSTER;AUT;016E220548N1200;00000;0180;5M00G7W;030.0;E;120.0;-02.0;V;17.0;0030;000ND00;000ND00;00893.20000;M;                                                  ;B;;;AUT2311AB01A001"
+
+-- Station S as an owner may keep it.
+abbrev pub keptS : List ℕ
+keptS = line "938.2;M;2;FB;CP;L;1;01032021;1010_MUSTER;AUT;016E220548N1200;0;180;5M00G7W;30.0;E;120.0;-2.0;V;17.0;30;000ND00;000ND00;893.2;M;;B;;;AUT2311AB01A001"
+
+-- The same without its power's tenths,
+abbrev pub wholePower : List ℕ
+wholePower = line "938.2;M;2;FB;CP;L;1;01032021;1010_MUSTER;AUT;016E220548N1200;0;180;5M00G7W;30;E;120.0;-2.0;V;17.0;30;000ND00;000ND00;893.2;M;;B;;;AUT2311AB01A001"
+
+-- with a class of three letters,
+abbrev pub longClass : List ℕ
+longClass = line "938.2;M;2;FBX;CP;L;1;01032021;1010_MUSTER;AUT;016E220548N1200;0;180;5M00G7W;30;E;120.0;-2.0;V;17.0;30;000ND00;000ND00;893.2;M;;B;;;AUT2311AB01A001"
+
+-- and without 13Y and its semicolon as well.
+abbrev pub fieldLost : List ℕ
+fieldLost = line "938.2;M;2;FBX;CP;L;1;01032021;1010_MUSTER;AUT;016E220548N1200;0;180;5M00G7W;30;E;120.0;-2.0;V;17.0;30;000ND00;000ND00;893.2;M;;;;AUT2311AB01A001"
+
 -- The traps of "Easy to get wrong" and of the rules' own words.
 abbrev pub traps : List Figure
 traps =
@@ -102,6 +131,13 @@ pub record Worked : Type 0 where
   pub s-code : stationCode s ≡ 0
   pub s-typed : typedCode (valueOf s) ≡ 0
   pub s-spelling : spellStation (valueOf s) ≡ recordOf spelledS
+  -- As a line it goes out in full, 13Z with its spaces, and short fields come in as the same station.
+  pub s-line : lineOf (valueOf s) ≡ lineS
+  pub s-kept : stationInLine keptS ≡ valueOf s
+  -- Rules come last, long fields before them, and the number of semicolons first.
+  pub rule-last : (listedRefusal (lineOutcome wholePower) ≡ 9) × (listedCode (lineOutcome wholePower) ≡ 15)
+  pub long-field : listedRefusal (lineOutcome longClass) ≡ 11
+  pub semicolons-first : listedRefusal (lineOutcome fieldLost) ≡ 10
   -- Two of them are twins. Ending number 1's 13X in 002 writes 2 rows, and no row is bad then.
   pub two-judged : sheetOf two ≡ twoSheet
   pub two-mended : replacedSheet two twoSheet 1 (sWith 30 "AUT2311AB01A002") ≡ mendedSheet
@@ -122,7 +158,7 @@ pub record Worked : Type 0 where
   pub no-field : refusal (showOutcome two 0 15) ≡ 8
 
 pub worked : Worked
-unfolding Holds among isHex isNarrow isText isName skip trimmed every howMany each byteGood same oneOf leading numberFrom wholeDigits wholeOf unsigned signedOf fractionOf magnitudeOf decimalOf dateRule dateIn dateOf dayGood dayOf tenthsGood tenthsOf amountGood unitGood unitOf frequencyOf radiusOf groundOf heightGood heightOf arcSeconds arcGood arcOf positionGood positionOf bandwidthGood detailGood emissionGood cellGood installationGood remarksGood isCategory classGood serviceGood usersGood isCarrier nameGood countryGood isBasis polarisationGood antennaGood isStatus referenceGood firstBroken fieldsOf fieldRules channelFields siteFields emissionFields antennaFields filingFields mobile roundAntenna firstBetween lastBetween betweenRules stationOf valueOf stationCode isMail textGood dateGood serialGood serialOf headerOf headerFields headerRules headerValue headerCode filedHeaderCode stations recordAt withRecord referenceAt codeAt tooLong notRecords placesOf fieldAt fieldCount twinAt rowOf rowIn bad trailer withTrailer judgedSheet sheetOf headIn trailerFits touched mendedRow replacing.mendedSheet rowsWritten refusal ifDone fileOutcome replaceOutcome replacedSheet replacedRows showOutcome shownField frequencyFits dayFits radiusFits groundFits heightFits positionFits tenthsFit channelRules siteRules emissionRules antennaRules filingRules typedRules typedCode spellDigits spellMagnitude spellDecimal spellSigned spellDate spellDay spellTenths unitLetter spellAmount spellUnit spellRadius spellGround spellHeight spellArc spellPosition channelPieces sitePieces emissionPieces antennaPieces filingPieces stationPieces spellStation
+unfolding Holds among isHex isNarrow isText isName skip trimmed every howMany each byteGood same oneOf leading numberFrom wholeDigits wholeOf unsigned signedOf fractionOf magnitudeOf decimalOf dateRule dateIn dateOf dayGood dayOf tenthsGood tenthsOf amountGood unitGood unitOf frequencyOf radiusOf groundOf heightGood heightOf arcSeconds arcGood arcOf positionGood positionOf bandwidthGood detailGood emissionGood cellGood installationGood remarksGood isCategory classGood serviceGood usersGood isCarrier nameGood countryGood isBasis polarisationGood antennaGood isStatus referenceGood firstBroken fieldsOf fieldRules channelFields siteFields emissionFields antennaFields filingFields mobile roundAntenna firstBetween lastBetween betweenRules stationOf valueOf stationCode isMail textGood dateGood serialGood serialOf headerOf headerFields headerRules headerValue headerCode filedHeaderCode stations recordAt withRecord referenceAt codeAt tooLong notRecords placesOf fieldAt fieldCount twinAt rowOf rowIn bad trailer withTrailer judgedSheet sheetOf headIn trailerFits touched mendedRow replacing.mendedSheet rowsWritten refusal ifDone fileOutcome replaceOutcome replacedSheet replacedRows showOutcome shownField frequencyFits dayFits radiusFits groundFits heightFits positionFits tenthsFit channelRules siteRules emissionRules antennaRules filingRules typedRules typedCode spellDigits spellMagnitude spellDecimal spellSigned spellDate spellDay spellTenths unitLetter spellAmount spellUnit spellRadius spellGround spellHeight spellArc spellPosition channelPieces sitePieces emissionPieces antennaPieces filingPieces stationPieces spellStation trimmedField paddedField lineOf before behind split lineFields isLine lines.recordOf listedRefusal listedCode ifListed unbroken lineOutcome stationInLine
 worked = record {
   traps-hold = (
     (refl, refl),
@@ -197,6 +233,11 @@ worked = record {
   s-code = refl;
   s-typed = refl;
   s-spelling = refl;
+  s-line = refl;
+  s-kept = refl;
+  rule-last = (refl, refl);
+  long-field = refl;
+  semicolons-first = refl;
   two-judged = refl;
   two-mended = refl;
   two-rows = refl;
