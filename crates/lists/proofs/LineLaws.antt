@@ -86,11 +86,11 @@ one-feed p (q ∷ ps) h = no-feed p (59 ∷ joinedLine (q ∷ ps)) (h .0) ∙ ze
 abbrev pub lastByte : List ℕ → ℕ
 lastByte t = getD t (length t - 1) 0
 
-last-cons : (x : ℕ) (t : List ℕ) → 1 ≤ length t → lastByte (x ∷ t) ≡ lastByte t
+pub last-cons : (x : ℕ) (t : List ℕ) → 1 ≤ length t → lastByte (x ∷ t) ≡ lastByte t
 last-cons x [] h = absurd (omega arith)
 last-cons x (y ∷ t) h = rw (sub-one (suc (suc (length t))), sub-one (suc (length t)))
 
-last-append : (p t : List ℕ) → 1 ≤ length t → lastByte (p ++ t) ≡ lastByte t
+pub last-append : (p t : List ℕ) → 1 ≤ length t → lastByte (p ++ t) ≡ lastByte t
 last-append [] t h = refl
 last-append (x ∷ p) t h = last-cons x (p ++ t) (omega (arith, length-append p t)) ∙ last-append p t h
 

@@ -1,6 +1,6 @@
 // Stations as lines of a semicolon list, for owners who keep them in office software.
 
-mod marks;
+pub mod marks;
 pub mod outcomes;
 mod padding;
 pub mod reading_lines;

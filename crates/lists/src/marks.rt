@@ -7,7 +7,7 @@ ghost use Rattle.columns.specs.Texts.{howMany};
 ghost use Rattle.lists.specs.Lines.{isMark, before, behind};
 
 // How many bytes of a line are the given one.
-pub(crate) fn count(line: &[u8], mark: u8) -> usize
+pub fn count(line: &[u8], mark: u8) -> usize
     ensures { λ r. ⌜ r ≡ howMany (λ c. eqb c mark) (now (line .entry)) ⌝ }
 {
     let mut n: usize = 0;

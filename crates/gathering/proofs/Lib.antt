@@ -1,0 +1,5 @@
+pub mod LengthLaws
+pub mod PartLaws
+pub mod HoldLaws
+pub mod FilingLaws
+pub mod Unique

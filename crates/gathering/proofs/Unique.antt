@@ -1,0 +1,20 @@
+-- The promises of the calls on a gathered line leave one answer, and one content of the lent bytes.
+-- Assumes nothing.
+use mathlib.Core.Path.{_≡_, sym, _∙_}
+use mathlib.Core.List.{List}
+use Prim.Native.Nat.{ℕ}
+use Rattle.lists.specs.declared.Listed.{Listed}
+use Rattle.gathering.specs.Promises.{Begun, GoneOn, GatheredFiled}
+use Rattle.gathering.specs.declared.Gathered.{Gathered}
+
+-- Two answers of `nothing` are equal.
+pub one-begun : (a b : Gathered) → Begun a → Begun b → a ≡ b
+one-begun a b p q = p ∙ sym q
+
+-- Two answers of `gather` to one part, beside one buffer, are equal, and so is what they leave there.
+pub one-gone-on : (before : List ℕ) (g : Gathered) (part : List ℕ) (a b : Gathered) (x y : List ℕ) → GoneOn before g part a x → GoneOn before g part b y → (a ≡ b) × (x ≡ y)
+one-gone-on before g part a b x y p q = (p .0 ∙ sym (q .0), p .1 ∙ sym (q .1))
+
+-- Two answers of `file_gathered` to one line and one buffer are equal, and so is what they leave there.
+pub one-gathered-filed : (buffer : List ℕ) (g : Gathered) (before : List ℕ) (a b : Listed) (x y : List ℕ) → GatheredFiled buffer g before a x → GatheredFiled buffer g before b y → (a ≡ b) × (x ≡ y)
+one-gathered-filed buffer g before a b x y p q = (p .0 ∙ sym (q .0), p .1 ∙ sym (q .1))

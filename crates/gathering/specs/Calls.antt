@@ -1,0 +1,32 @@
+-- Document 02, wish 1: how filing a gathered line ends, and what it leaves.
+use Prim.Native.Nat.{ℕ}
+use mathlib.Core.Bool.{cond, _&&_}
+use mathlib.Core.List.{List}
+use lib.ListN.{take}
+use lib.Dec.{leb, eqb}
+use Rattle.columns.specs.Texts.{sized}
+use Rattle.filing.specs.Fields.{recordLength}
+use Rattle.lists.specs.Lines.{isFeed}
+use Rattle.lists.specs.Calls.{lineFiling, filedLine}
+use Rattle.lists.specs.declared.Listed.{Listed}
+use Rattle.lists.specs.declared.Listed.the-variants as listed
+use Rattle.gathering.specs.declared.Gathered.{Gathered}
+
+-- The longest line of a station: 219 columns, 29 semicolons and the line feed.
+abbrev pub longestLine : ℕ
+longestLine = 249
+
+-- A longer one with its marks has a field that is too long for its columns, 11; any other is not a line, 10.
+unfoldable pub longOutcome : Gathered → Listed
+longOutcome g = cond (eqb (g .semicolons) 29 && (eqb (g .feeds) 1 && isFeed (g .last))) listed.FieldTooLong listed.NotALine
+
+-- Filing a gathered line: one that is held whole as it is, a longer one by what is kept of it; 7 before either.
+unfoldable pub gatheredFiling : List ℕ → Gathered → List ℕ → Listed
+gatheredFiling buffer g out =
+    cond (leb (g .held) longestLine)
+    (lineFiling (take (g .held) buffer) out)
+    (cond (sized recordLength out) (longOutcome g) listed.BufferLength)
+
+-- It leaves the record of a line that is held whole and accepted, and on a refusal every byte as it was.
+unfoldable pub filedGathered : List ℕ → Gathered → List ℕ → List ℕ
+filedGathered buffer g out = cond (leb (g .held) longestLine) (filedLine (take (g .held) buffer) out) out
