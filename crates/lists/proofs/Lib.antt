@@ -5,6 +5,7 @@ pub mod FieldPieces
 pub mod TextPieces
 pub mod RoundTrip
 pub mod Reading
+pub mod SizeLaws
 pub mod CountLaws
 pub mod MarkLaws
 pub mod FillLaws

@@ -168,6 +168,10 @@ values-hold : (s : Station) → typedCode s ≡ 0 → All (typedRules s)
 unfolding typedCode
 values-hold s e = all-front (typedRules s) (betweenRules s) (all-hold 0 (typedRules s ++ betweenRules s) e)
 
+-- What a station that breaks no rule is written as is a line.
+pub line-is : (s : Station) → typedCode s ≡ 0 → isLine (lineOf s) ≡ true
+line-is s e = line-marks s (values-hold s e)
+
 -- The record that a station's line says is the station's record,
 pub line-record : (s : Station) → typedCode s ≡ 0 → recordOf (lineOf s) ≡ spellStation s
 line-record s e = record-found s (values-hold s e)

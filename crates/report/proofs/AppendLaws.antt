@@ -1,12 +1,12 @@
 -- Texts put into lent bytes one behind the other: two that follow each other are one text, and so is none.
 -- Assumes nothing.
-use mathlib.Core.Path.{_≡_, sym, ap, _∙_}
-use mathlib.Core.List.{List, [], _++_, append-assoc}
+use mathlib.Core.Path.{_≡_, refl, sym, ap, _∙_}
+use mathlib.Core.List.{List, [], _++_, append-assoc, append-nil}
 use Prim.Native.Nat.{ℕ, _+_, _-_, _≤_}
-use native.Mathlib.Nat.{add-zero, add-sub-cancel-left}
+use native.Mathlib.Nat.{add-zero, add-sub-cancel-left, le-refl}
 use native.Mathlib.Omega.{arith}
-use lib.ListN.{length, take, drop, length-append, length-drop, take-append-drop}
-use lib.Seq.{take-at, drop-at, drop-drop, length-take-le}
+use lib.ListN.{length, take, drop, length-append, length-drop, drop-of-length-le, take-append-drop}
+use lib.Seq.{take-at, take-all, drop-at, drop-drop, length-take-le}
 use Rattle.report.specs.Promises.{Appended}
 
 -- Nothing put in changes nothing.
@@ -77,3 +77,38 @@ put-in out text part start k l h e =
       ends = rw l;
       stands = rw (e, m, l, drop-drop k start out);
     }
+
+-- The part of the lent bytes from start to their end, and all of them with that part put back.
+abbrev pub restOf : List ℕ → ℕ → List ℕ
+restOf out start = take (length out - start) (drop start out)
+
+abbrev pub withRest : List ℕ → ℕ → List ℕ → List ℕ
+withRest out start part = take start out ++ (part ++ drop (length out - start) (drop start out))
+
+module _ (out : List ℕ) (start : ℕ) where
+  -- It is all that stands there,
+  rest-all : restOf out start ≡ drop start out
+  rest-all = take-all (length out - start) (drop start out) (rw (length-drop start out) (le-refl (length out - start)))
+
+  -- and nothing is behind it.
+  put-back : (part : List ℕ) → withRest out start part ≡ take start out ++ part
+  put-back part =
+      let none : drop (length out - start) (drop start out) ≡ [] = drop-of-length-le (drop start out) {i = length out - start} (rw (length-drop start out) (le-refl (length out - start))) in
+      rw (none, append-nil part)
+
+  -- There are as many of these bytes as are not before them.
+  pub rest-length : start ≤ length out → start + length (restOf out start) ≡ length out
+  rest-length h = rw rest-all (omega (arith, length-drop start out))
+
+  -- Left as it was, all is as it was;
+  pub rest-kept : withRest out start (restOf out start) ≡ out
+  rest-kept = put-back (restOf out start) ∙ rw rest-all (take-append-drop start out)
+
+  -- a text written first into it was put in from start on.
+  pub rest-written : (text : List ℕ) → start + length text ≤ length out → Appended out start text (withRest out start (text ++ drop (length text) (restOf out start))) (start + length text)
+  rest-written text h =
+      record {
+        fits = h;
+        ends = refl;
+        stands = put-back (text ++ drop (length text) (restOf out start)) ∙ rw (rest-all, drop-drop (length text) start out);
+      }

@@ -2,6 +2,8 @@ pub mod AppendLaws
 pub mod LineLaws
 pub mod SheetLaws
 pub mod ReportLaws
+pub mod ListLaws
+pub mod ListLines
 pub mod Unique
 pub mod Plain
 pub mod Worked

@@ -1,4 +1,4 @@
--- The report of a file from what was put in: its one line where it is refused, else the lines of its sheet.
+-- What is printed of a file from what was put in: one line where it is refused, else the lines of its sheet, or its list.
 -- Assumes nothing.
 use mathlib.Core.Path.{_≡_, sym, ap, _∙_}
 use mathlib.Core.Bool.{Bool, true, false, not}
@@ -13,10 +13,12 @@ use Rattle.filing.specs.declared.Outcome.{Outcome}
 use Rattle.filing.specs.declared.Outcome.the-variants as outcome
 use Rattle.files.specs.Files.{stations}
 use Rattle.files.proofs.LengthLaws.{done, whole-records}
+use Rattle.sheet.specs.Counting.{rows}
 use Rattle.sheet.specs.Sheets.{sheetOf}
 use Rattle.report.specs.Lines.{refusedLine}
 use Rattle.report.specs.Reports.{sheetReport, lengthOutcome, reportOf}
-use Rattle.report.specs.Promises.{Appended, ReportWritten}
+use Rattle.report.specs.Lists.{entryOf, listOf}
+use Rattle.report.specs.Promises.{Appended, Written}
 
 -- The file's length, as it was asked and answered.
 module _ (file : List ℕ) {o : Outcome} {b : Bool} (asked : o ≡ lengthOutcome file) (answer : b ≡ done o) where
@@ -42,13 +44,22 @@ pub whole-report : (file : List ℕ) → done (lengthOutcome file) ≡ true → 
 unfolding reportOf ifDone
 whole-report file e = rw e
 
--- What is put in from the first byte on, and is the report, is the report written.
-pub written : (file : List ℕ) {out text after : List ℕ} {answer : ℕ} → reportOf file ≡ text → Appended out 0 text after answer → ReportWritten file out answer after
-written file {out} {text} e s = rw e (s .ends ∙ zero-add (length text), s .stands ∙ rw (zero-add (length text)))
+-- The same of its list,
+pub refused-list : (file : List ℕ) → done (lengthOutcome file) ≡ false → listOf file ≡ refusedLine (refusal (lengthOutcome file))
+unfolding listOf ifDone
+refused-list file e = rw e
 
--- A report that was written ends within the lent bytes.
-pub within : (file out : List ℕ) {after : List ℕ} {answer : ℕ} → ReportWritten file out answer after → answer ≤ length after
-within file out {after} w =
-    let x : List ℕ = reportOf file in
-    let l : length after ≡ length x + length (drop (length x) out) = ap length (w .1) ∙ length-append x (drop (length x) out) in
+-- which has something for each station.
+pub whole-list : (file : List ℕ) → done (lengthOutcome file) ≡ true → listOf file ≡ rows (entryOf file) (stations file)
+unfolding listOf ifDone
+whole-list file e = rw e
+
+-- What is put in from the first byte on, and is the text, is the text written.
+pub written : {whole text out after : List ℕ} {answer : ℕ} → whole ≡ text → Appended out 0 text after answer → Written whole out answer after
+written {whole} {text} e s = rw e (s .ends ∙ zero-add (length text), s .stands ∙ rw (zero-add (length text)))
+
+-- A text that was written ends within the lent bytes.
+pub within : (text out : List ℕ) {after : List ℕ} {answer : ℕ} → Written text out answer after → answer ≤ length after
+within text out {after} w =
+    let l : length after ≡ length text + length (drop (length text) out) = ap length (w .1) ∙ length-append text (drop (length text) out) in
     omega (arith, w .0)

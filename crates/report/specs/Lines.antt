@@ -1,4 +1,4 @@
--- Document 01, "The sheet": the lines that the program prints, each ended by a line feed. A line is the list of its bytes.
+-- Document 01, "The sheet": the lines that the programs print, each ended by a line feed. A line is the list of its bytes.
 use Prim.Native.Nat.{ℕ}
 use Prim.Native.String.{String}
 use mathlib.Core.Bool.{cond}
@@ -38,3 +38,7 @@ stationLine k c t = labelled "station " k ++ (labelled " code " c ++ (labelled "
 -- `stations N bad B`
 unfoldable pub totalLine : ℕ → ℕ → List ℕ
 totalLine n b = labelled "stations " n ++ (labelled " bad " b ++ lineFeed)
+
+-- `station K code C`, in a list where a station's own line would stand
+unfoldable pub brokenLine : ℕ → ℕ → List ℕ
+brokenLine k c = labelled "station " k ++ (labelled " code " c ++ lineFeed)

@@ -1,5 +1,6 @@
-// The report of a file: the lines that the program prints.
+// What the programs print: the report of a file, and its list.
 
 mod lines;
+pub mod listing;
 mod pieces;
 pub mod reports;

@@ -1,9 +1,9 @@
-// The lines of a report, each put into the lent bytes behind what stands there already.
+// The lines of a report and of a list, each put into the lent bytes behind what stands there already.
 use crate::pieces::put_labelled;
 use crate::pieces::put_text;
 ghost use Prim.Native.Nat.{_+_, _≤_};
 ghost use lib.ListN.{length};
-ghost use Rattle.report.specs.Lines.{refusedLine, headerLine, stationLine, totalLine};
+ghost use Rattle.report.specs.Lines.{refusedLine, headerLine, stationLine, totalLine, brokenLine};
 ghost use Rattle.report.specs.Promises.{Appended};
 
 // Puts in `refused R`, and answers where it ends.
@@ -45,4 +45,15 @@ pub(crate) fn put_total(out: &mut [u8], start: usize, n: u8, found: u8) -> usize
     let end = put_labelled(out, start, b"stations ", n);
     let found_end = put_labelled(out, end, b" bad ", found);
     put_text(out, found_end, b"\n")
+}
+
+// Puts in `station K code C`, and answers where it ends.
+pub(crate) fn put_broken(out: &mut [u8], start: usize, k: u8, code: u8) -> usize
+    requires { ⌜ start + 21 ≤ length (now out) ⌝ }
+    ensures { λ r. ⌜ Appended (now (out .entry)) start (brokenLine k code) (now (out .exit)) r ⌝ }
+    ensures { λ r. ⌜ r ≤ start + 21 ⌝ }
+{
+    let end = put_labelled(out, start, b"station ", k);
+    let code_end = put_labelled(out, end, b" code ", code);
+    put_text(out, code_end, b"\n")
 }

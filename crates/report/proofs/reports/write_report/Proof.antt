@@ -29,7 +29,7 @@ returns c =
     let asked : c .before .before .before .before .before .check-file .result ≡ lengthOutcome file = c .before .before .before .before .before .check-file .ensures in
     let no = turned-away file asked (c .before .before .before .before .is-done .ensures) (c .before .before .before .if1 .taken) in
     let number : refusal (lengthOutcome file) ≡ c .before .refusal-number .result = ap (λ (o : Outcome). refusal o) (sym asked) ∙ sym (c .before .refusal-number .ensures) in
-    written file (refused-report file no ∙ ap (λ (r : ℕ). refusedLine r) number) (c .put-refused .ensures)
+    written (refused-report file no ∙ ap (λ (r : ℕ). refusedLine r) number) (c .put-refused .ensures)
 
 put-file-requires : tie.Need-put-file-requires
 put-file-requires c κs = (search needs, taken (now (c .before .before .before .before .before .args .file)) (c .before .before .before .check-file .ensures) (c .before .before .is-done .ensures) (c .before .if1 .left))
@@ -37,7 +37,7 @@ put-file-requires c κs = (search needs, taken (now (c .before .before .before .
 returns-2 : tie.Need-returns-2
 returns-2 c =
     let file = now (c .before .before .before .before .before .before .args .file) in
-    written file (whole-report file (taken file (c .before .before .before .before .check-file .ensures) (c .before .before .before .is-done .ensures) (c .before .before .if1 .left))) (c .put-file .ensures)
+    written (whole-report file (taken file (c .before .before .before .before .check-file .ensures) (c .before .before .before .is-done .ensures) (c .before .before .if1 .left))) (c .put-file .ensures)
 
 pub write-report-spec : {M : Type 1} → statement M
 write-report-spec =
