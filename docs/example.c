@@ -1,5 +1,6 @@
 /*
- * The desk from C: a filing judged, a field shown, a station replaced, and the sheet mended.
+ * The desk from C: a filing judged, a field shown, a station replaced, the sheet mended, and a
+ * station as a line of a semicolon list.
  *
  *     tools/hostlib target/host
  *     cc -Iinclude docs/example.c target/host/libdesk_c.a -o target/host/example
@@ -60,6 +61,26 @@ int main(int count, char **words)
     /* An azimuth of 360.0 breaks rule 17, and the record keeps its bytes. */
     uint8_t code;
     refusal = desk_set_azimuth(record, sizeof record, 1, 3600, &code);
+    printf("refused %u, code %u\n", refusal, code);
+
+    /* Station 2 as a line; its line feed is the last byte. */
+    uint8_t line[DESK_MAX_LINE_LENGTH];
+    size_t line_length;
+    const uint8_t *station = file + 2 * DESK_RECORD_LENGTH;
+    refusal = desk_list_out(station, DESK_RECORD_LENGTH, line, sizeof line, &line_length, &code);
+    printf("refused %u, length %zu\n", refusal, line_length);
+    fwrite(line, 1, line_length, stdout);
+
+    /* The line is the same station: back in a record it is the station's one spelling. */
+    uint8_t spelled[DESK_RECORD_LENGTH];
+    desk_respell_station(station, DESK_RECORD_LENGTH, spelled, sizeof spelled, &code);
+    refusal = desk_list_in(line, line_length, record, sizeof record, &code);
+    printf("refused %u, %s\n", refusal,
+           memcmp(record, spelled, sizeof record) == 0 ? "the same station" : "another station");
+
+    /* With one of its semicolons gone it is no line. */
+    *(uint8_t *)memchr(line, ';', line_length) = ' ';
+    refusal = desk_list_in(line, line_length, record, sizeof record, &code);
     printf("refused %u, code %u\n", refusal, code);
     return 0;
 }

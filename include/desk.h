@@ -1,5 +1,5 @@
 /*
- * desk.h - filing files: read, judged, replaced, shown and set.
+ * desk.h - filing files: read, judged, replaced, shown, set and listed.
  *
  * A filing file is one header and n stations, 0 <= n <= 250, each a record of 219 bytes, with
  * nothing between them. Its sheet has 2n + 8 bytes: for each station its code and its twin, then
@@ -31,6 +31,9 @@ extern "C" {
 #define DESK_MAX_FILE_LENGTH 54969u
 #define DESK_SHEET_LENGTH(stations) (2u * (stations) + 8u)
 
+/* The longest line that is written: 219 columns, 29 semicolons and the line feed. */
+#define DESK_MAX_LINE_LENGTH 249u
+
 /* The numbers of the refusals. */
 enum desk_refusal {
     DESK_DONE = 0,                       /* not refused */
@@ -42,7 +45,10 @@ enum desk_refusal {
     DESK_REFUSED_RECORD_LENGTH = 6,      /* the record offered is not 219 bytes */
     DESK_REFUSED_BUFFER_LENGTH = 7,      /* the buffer to write into is not 219 bytes */
     DESK_REFUSED_FIELD = 8,              /* stations have fields 1 to 30, the header 1 to 14 */
-    DESK_REFUSED_RULE = 9                /* a record or value breaks a rule; its code comes too */
+    DESK_REFUSED_RULE = 9,               /* a record or value breaks a rule; its code comes too */
+    DESK_REFUSED_LINE_SHAPE = 10,        /* not 29 semicolons and one line feed, the last byte */
+    DESK_REFUSED_FIELD_LENGTH = 11,      /* a field of the line is longer than its columns */
+    DESK_REFUSED_LINE_BUFFER = 12        /* the lent buffer is shorter than the line */
 };
 
 /*
@@ -128,6 +134,31 @@ uint8_t desk_set_height(uint8_t *record, size_t record_length,
 /* Sets the height above ground 9Y, in metres; it is never blank. */
 uint8_t desk_set_ground(uint8_t *record, size_t record_length,
                         int64_t metres, uint8_t *code);
+
+/*
+ * A line of a semicolon list is a station's thirty fields in column order, joined by semicolons
+ * and ended by a line feed.
+ */
+
+/*
+ * Reads the station of a record and writes it into `line` as a line: each field in the one
+ * spelling, without its leading and trailing spaces; only 13Z keeps them. `length` is the line's
+ * length, its line feed included, and 0 on a refusal; bytes of `line` after it stay. A buffer of
+ * DESK_MAX_LINE_LENGTH has room for every line.
+ * Refusals, in this order: 6, 9, 12.
+ */
+uint8_t desk_list_out(const uint8_t *record, size_t record_length,
+                      uint8_t *line, size_t line_length,
+                      size_t *length, uint8_t *code);
+
+/*
+ * Reads the station of a line, its line feed included, and writes it into `record` in the one
+ * spelling. A field may have any spelling that a record may have; one shorter than its columns is
+ * padded with spaces, whole numbers and decimals on the left, all others on the right.
+ * Refusals, in this order: 7, 10, 11, 9.
+ */
+uint8_t desk_list_in(const uint8_t *line, size_t line_length,
+                     uint8_t *record, size_t record_length, uint8_t *code);
 
 #ifdef __cplusplus
 }

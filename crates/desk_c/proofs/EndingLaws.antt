@@ -12,11 +12,17 @@ use Rattle.filing.specs.Outcomes.{refusal, codeWith, ifDone, judged}
 use Rattle.filing.specs.declared.Outcome.{Outcome}
 use Rattle.filing.specs.declared.Outcome.the-variants as outcome
 use Rattle.filing.proofs.CallLaws.{ending, done}
-use Rattle.desk_c.specs.Endings.{firstRefusal, Answered}
+use Rattle.lists.specs.Outcomes.{listedRefusal, listedCode}
+use Rattle.lists.specs.declared.Listed.{Listed}
+use Rattle.desk_c.specs.Endings.{firstRefusal, Answered, AnsweredOnLine}
 
 -- Equal outcomes have equal numbers.
 pub answered : {o p : Outcome} {answer code : ℕ} → Answered o answer code → o ≡ p → Answered p answer code
 answered a e = (a .0 ∙ ap refusal e, a .1 ∙ ap codeWith e)
+
+-- So have equal outcomes of calls on lines.
+pub answered-on-line : {o p : Listed} {answer code : ℕ} → AnsweredOnLine o answer code → o ≡ p → AnsweredOnLine p answer code
+answered-on-line a e = (a .0 ∙ ap listedRefusal e, a .1 ∙ ap listedCode e)
 
 -- A call that no number refuses is done.
 pub done-is : (o : Outcome) → done o ≡ true → o ≡ outcome.Done

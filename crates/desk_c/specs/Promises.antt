@@ -10,11 +10,12 @@ use Rattle.station.specs.Setting.{withPower, withAzimuth, withElevation, withHe
 use Rattle.station.specs.declared.Station.{Station}
 use Rattle.station.specs.declared.setting.Settled.{Settled}
 use Rattle.reading.specs.declared.typed.ReadStation.{ReadStation}
+use Rattle.lists.specs.Calls.{recordListing, listedLength, listedRecord, lineFiling, filedLine}
 use Rattle.header.specs.Calls.{readHeaderOutcome}
 use Rattle.files.specs.Calls.{showOutcome}
 use Rattle.sheet.specs.Calls.{judgeOutcome, judgedInto, replaceOutcome, replacedFile, replacedSheet, replacedRows}
 use Rattle.desk_c.specs.Filings.{shownOffset, shownLength}
-use Rattle.desk_c.specs.Endings.{firstRefusal, Answered, Ended}
+use Rattle.desk_c.specs.Endings.{firstRefusal, Answered, AnsweredOnLine, Ended}
 use Rattle.desk_c.specs.Records.{respellOutcome, respelledStation, respellHeaderOutcome, respelledHeader, changeOutcome, changedRecord, tenthsStated, heightStated}
 
 -- `desk_station_code` on a record.
@@ -79,3 +80,12 @@ FilingReplaced file sheet k r answer file′ sheet′ rows =
 abbrev pub FieldLocated : List ℕ → ℕ → ℕ → ℕ → ℕ → ℕ → Type 0
 FieldLocated file k j answer offset length =
     (answer ≡ refusal (showOutcome file k j)) × (offset ≡ shownOffset file k j) × (length ≡ shownLength file k j)
+
+-- `desk_list_out` of a record into a buffer.
+abbrev pub RecordLineOut : List ℕ → List ℕ → ℕ → List ℕ → ℕ → ℕ → Type 0
+RecordLineOut r before answer after length code =
+    AnsweredOnLine (recordListing r before) answer code × (after ≡ listedRecord r before) × (length ≡ listedLength r before)
+
+-- `desk_list_in` of a line into a record.
+abbrev pub LineRecordIn : List ℕ → List ℕ → ℕ → List ℕ → ℕ → Type 0
+LineRecordIn t before answer after code = AnsweredOnLine (lineFiling t before) answer code × (after ≡ filedLine t before)

@@ -7,8 +7,8 @@ mod timing;
 
 use std::hint::black_box;
 
-use desk::raw;
-use peer::{sheet_length, Record, Station};
+use desk::{raw, MAX_LINE_LENGTH};
+use peer::{lists, sheet_length, Record, Station};
 use timing::{compare, Times};
 
 /// The sizes of file at which growth is measured.
@@ -17,7 +17,8 @@ const SIZES: [usize; 3] = [10, 50, 250];
 /// What the output says before its table.
 const STATE: &str = "\
 One thread; every buffer is lent, stays in memory and was used before, so caches are warm.
-Records: 64 different stations in turn; respelling writes into one buffer of 219 bytes.
+Records: 64 different stations in turn; respelling writes into one buffer of 219 bytes, listing
+into one of 249. Lines: those of the same stations in turn, filed into one buffer of 219 bytes.
 Judging: files whose 13X share their first nine bytes and all differ, so that no search for a
 twin ends early; two files in turn, one sheet.
 Replacing: one file and its own sheet, changed by every call. One row: each station in turn gets
@@ -46,6 +47,8 @@ fn main() {
     row("replace that writes one row, n = 250", full.replace_one);
     row("replace that writes 250 rows, n = 250", full.replace_all);
     row("respell a station", respell());
+    row("list a station (record to line)", list_out());
+    row("file a line (line to record)", list_in());
     println!("growth (factors since n = 10: verified, peer)");
     for Size { n, judge, .. } in &sizes {
         grown(&format!("judge, n = {n}"), *judge, small.judge);
@@ -103,6 +106,59 @@ fn respell() -> Times {
             let written =
                 Station::read(record).and_then(|station| station.write(black_box(&mut their_out)));
             assert_eq!(written, Ok(()));
+        },
+    )
+}
+
+fn list_out() -> Times {
+    let stations = samples::stations();
+    let (mut our_line, mut their_line) = ([0; MAX_LINE_LENGTH], [0; MAX_LINE_LENGTH]);
+    let peer_out = |record: &Record, line: &mut [u8]| {
+        Station::read(record).and_then(|station| lists::write_line(&station, line))
+    };
+    for station in &stations {
+        let (refusal, length, code) = raw::list_out(station, &mut our_line);
+        assert_eq!((refusal, code), (0, 0));
+        assert_eq!(Ok(length), peer_out(station, &mut their_line));
+        assert_eq!(our_line, their_line);
+    }
+    let mut ours = stations.iter().cycle();
+    let mut theirs = stations.iter().cycle();
+    compare(
+        || {
+            let record = black_box(ours.next().expect("a cycle"));
+            let answer = black_box(raw::list_out(record, black_box(&mut our_line)));
+            assert_eq!(answer.0, 0);
+        },
+        || {
+            let record = black_box(theirs.next().expect("a cycle"));
+            let answer = black_box(peer_out(record, black_box(&mut their_line)));
+            assert!(answer.is_ok());
+        },
+    )
+}
+
+fn list_in() -> Times {
+    let lines = samples::lines();
+    let (mut our_record, mut their_record) = ([0; 219], [0; 219]);
+    let peer_in = |line: &[u8], record: &mut [u8]| {
+        lists::read_line(line).and_then(|station| station.write(record))
+    };
+    for line in &lines {
+        assert_eq!(raw::list_in(line, &mut our_record), (0, 0));
+        assert_eq!(peer_in(line, &mut their_record), Ok(()));
+        assert_eq!(our_record, their_record);
+    }
+    let mut ours = lines.iter().cycle();
+    let mut theirs = lines.iter().cycle();
+    compare(
+        || {
+            let line = black_box(ours.next().expect("a cycle"));
+            assert_eq!(raw::list_in(line, black_box(&mut our_record)), (0, 0));
+        },
+        || {
+            let line = black_box(theirs.next().expect("a cycle"));
+            assert_eq!(peer_in(line, black_box(&mut their_record)), Ok(()));
         },
     )
 }

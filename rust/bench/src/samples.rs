@@ -1,5 +1,6 @@
 //! Stations and files to measure on; they vary so that no answer can be known beforehand.
 
+use peer::lists::{self, MAX_LINE_LENGTH};
 use peer::{Date, Frequency, Header, Kilometres, Metres, Place, Record, Station, Tenths, Unit};
 
 /// How many different stations there are.
@@ -8,6 +9,11 @@ pub const STATIONS: usize = 64;
 /// Different stations that break no rule, in the one spelling.
 pub fn stations() -> Vec<Record> {
     (0..STATIONS).map(|index| written(&station(index as i64))).collect()
+}
+
+/// The lines of these stations.
+pub fn lines() -> Vec<Vec<u8>> {
+    (0..STATIONS).map(|index| listed(&station(index as i64))).collect()
 }
 
 /// Different stations, each broken in one of its fields.
@@ -67,6 +73,13 @@ fn written(station: &Station) -> Record {
     let mut record = [0; 219];
     station.write(&mut record).expect("the station holds");
     record
+}
+
+fn listed(station: &Station) -> Vec<u8> {
+    let mut line = vec![0; MAX_LINE_LENGTH];
+    let length = lists::write_line(station, &mut line).expect("the station holds");
+    line.truncate(length);
+    line
 }
 
 /// A base station like S of 01, with numbers that go with `index`.

@@ -2,7 +2,8 @@
 //!
 //! A filing file is one header and n stations, 0 ≤ n ≤ 250, each a record of 219 bytes. Judging
 //! fills a sheet of 2n + 8 bytes; replacing puts a record in and mends the sheet; showing finds a
-//! field; setting changes one value of a station. A refused call changes no lent byte.
+//! field; setting changes one value of a station; listing turns a station's record into a line of
+//! a semicolon list, or such a line into a record. A refused call changes no lent byte.
 //!
 //! ```
 //! // One station, not filled in: its first broken rule is 3, the header's is 1.
@@ -26,6 +27,9 @@ pub const MAX_STATIONS: usize = 250;
 
 /// The most bytes that a file has.
 pub const MAX_FILE_LENGTH: usize = (MAX_STATIONS + 1) * RECORD_LENGTH;
+
+/// The most bytes that a line of a list has, its line feed included.
+pub const MAX_LINE_LENGTH: usize = RECORD_LENGTH + 30;
 
 /// The length of the sheet for a file of this many stations.
 pub const fn sheet_length(stations: usize) -> usize {
@@ -154,7 +158,8 @@ pub fn respell_header(record: &[u8], out: &mut [u8]) -> Result<(), Refusal> {
 /// # Ok::<(), desk::Refusal>(())
 /// ```
 pub fn set_power(record: &mut [u8], tenths: Option<i64>) -> Result<(), Refusal> {
-    let (refusal, code) = raw::set_power(record, tenths);
+    let (filled, number) = stated(tenths);
+    let (refusal, code) = raw::set_power(record, filled, number);
     answer(refusal, code, ())
 }
 
@@ -170,7 +175,8 @@ pub fn set_power(record: &mut [u8], tenths: Option<i64>) -> Result<(), Refusal> 
 /// # Ok::<(), desk::Refusal>(())
 /// ```
 pub fn set_azimuth(record: &mut [u8], tenths: Option<i64>) -> Result<(), Refusal> {
-    let (refusal, code) = raw::set_azimuth(record, tenths);
+    let (filled, number) = stated(tenths);
+    let (refusal, code) = raw::set_azimuth(record, filled, number);
     answer(refusal, code, ())
 }
 
@@ -184,7 +190,8 @@ pub fn set_azimuth(record: &mut [u8], tenths: Option<i64>) -> Result<(), Refusal
 /// # Ok::<(), desk::Refusal>(())
 /// ```
 pub fn set_elevation(record: &mut [u8], tenths: Option<i64>) -> Result<(), Refusal> {
-    let (refusal, code) = raw::set_elevation(record, tenths);
+    let (filled, number) = stated(tenths);
+    let (refusal, code) = raw::set_elevation(record, filled, number);
     answer(refusal, code, ())
 }
 
@@ -198,7 +205,8 @@ pub fn set_elevation(record: &mut [u8], tenths: Option<i64>) -> Result<(), Refus
 /// # Ok::<(), desk::Refusal>(())
 /// ```
 pub fn set_height(record: &mut [u8], metres: Option<i64>) -> Result<(), Refusal> {
-    let (refusal, code) = raw::set_height(record, metres);
+    let (filled, number) = stated(metres);
+    let (refusal, code) = raw::set_height(record, filled, number);
     answer(refusal, code, ())
 }
 
@@ -217,16 +225,15 @@ pub fn set_ground(record: &mut [u8], metres: i64) -> Result<(), Refusal> {
 }
 
 /// Writes the station of a record as a semicolon line and answers the line's length; bytes of
-/// `line` after it stay. Refusals: 6, 9, 12.
+/// `line` after it stay. Refusals, in this order: 6, 9, 12.
 ///
 /// ```
 /// # let station = include_bytes!(concat!(env!("CARGO_MANIFEST_DIR"), "/station-s.txt"));
-/// let mut line = [0; 249];
+/// let mut line = [0; desk::MAX_LINE_LENGTH];
 /// let length = desk::list_out(station, &mut line)?;
 /// assert!(line[..length].starts_with(b"00938.20000;M;2;FB;CP;L;1;01032021;1010_MUSTER;AUT;"));
 /// # Ok::<(), desk::Refusal>(())
 /// ```
-#[cfg(feature = "lists")]
 pub fn list_out(record: &[u8], line: &mut [u8]) -> Result<usize, Refusal> {
     let (refusal, length, code) = raw::list_out(record, line);
     answer(refusal, code, length)
@@ -237,17 +244,21 @@ pub fn list_out(record: &[u8], line: &mut [u8]) -> Result<usize, Refusal> {
 ///
 /// ```
 /// # let station = include_bytes!(concat!(env!("CARGO_MANIFEST_DIR"), "/station-s.txt"));
-/// let mut line = [0; 249];
+/// let mut line = [0; desk::MAX_LINE_LENGTH];
 /// let length = desk::list_out(station, &mut line)?;
 /// let mut record = [0; 219];
 /// desk::list_in(&line[..length], &mut record)?;
 /// assert_eq!(&record, station);
 /// # Ok::<(), desk::Refusal>(())
 /// ```
-#[cfg(feature = "lists")]
 pub fn list_in(line: &[u8], record: &mut [u8]) -> Result<(), Refusal> {
     let (refusal, code) = raw::list_in(line, record);
     answer(refusal, code, ())
+}
+
+/// A value as the library is told of it; with a blank it does not look at the number.
+fn stated(value: Option<i64>) -> (u8, i64) {
+    value.map_or((0, 0), |number| (1, number))
 }
 
 /// The value of a call that was done, or its refusal.

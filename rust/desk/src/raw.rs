@@ -13,9 +13,6 @@ const NO_CODE: u8 = u8::MAX;
 /// A count that no call gives.
 const NO_COUNT: usize = usize::MAX;
 
-/// The number lent with a blank, at which the library must not look: no field can spell it.
-const NO_NUMBER: i64 = i64::MIN;
-
 /// A call that judges one record.
 type Check = unsafe extern "C" fn(*const u8, usize, *mut u8) -> u8;
 
@@ -90,10 +87,6 @@ extern "C" {
         code: *mut u8,
     ) -> u8;
     fn desk_set_ground(record: *mut u8, record_length: usize, metres: i64, code: *mut u8) -> u8;
-}
-
-#[cfg(feature = "lists")]
-extern "C" {
     fn desk_list_out(
         record: *const u8,
         record_length: usize,
@@ -167,23 +160,23 @@ pub fn respell_header(record: &[u8], out: &mut [u8]) -> (u8, u8) {
 }
 
 /// `desk_set_power`: the refusal and the code.
-pub fn set_power(record: &mut [u8], tenths: Option<i64>) -> (u8, u8) {
-    set(desk_set_power, record, tenths)
+pub fn set_power(record: &mut [u8], filled: u8, tenths: i64) -> (u8, u8) {
+    set(desk_set_power, record, filled, tenths)
 }
 
 /// `desk_set_azimuth`: the refusal and the code.
-pub fn set_azimuth(record: &mut [u8], tenths: Option<i64>) -> (u8, u8) {
-    set(desk_set_azimuth, record, tenths)
+pub fn set_azimuth(record: &mut [u8], filled: u8, tenths: i64) -> (u8, u8) {
+    set(desk_set_azimuth, record, filled, tenths)
 }
 
 /// `desk_set_elevation`: the refusal and the code.
-pub fn set_elevation(record: &mut [u8], tenths: Option<i64>) -> (u8, u8) {
-    set(desk_set_elevation, record, tenths)
+pub fn set_elevation(record: &mut [u8], filled: u8, tenths: i64) -> (u8, u8) {
+    set(desk_set_elevation, record, filled, tenths)
 }
 
 /// `desk_set_height`: the refusal and the code.
-pub fn set_height(record: &mut [u8], metres: Option<i64>) -> (u8, u8) {
-    set(desk_set_height, record, metres)
+pub fn set_height(record: &mut [u8], filled: u8, metres: i64) -> (u8, u8) {
+    set(desk_set_height, record, filled, metres)
 }
 
 /// `desk_set_ground`: the refusal and the code.
@@ -195,7 +188,6 @@ pub fn set_ground(record: &mut [u8], metres: i64) -> (u8, u8) {
 }
 
 /// `desk_list_out`: the refusal, the line's length and the code.
-#[cfg(feature = "lists")]
 pub fn list_out(record: &[u8], line: &mut [u8]) -> (u8, usize, u8) {
     let (mut length, mut code) = (NO_COUNT, NO_CODE);
     // SAFETY: both pointers are good for the lengths of their slices; `line` and the answers are
@@ -214,7 +206,6 @@ pub fn list_out(record: &[u8], line: &mut [u8]) -> (u8, usize, u8) {
 }
 
 /// `desk_list_in`: the refusal and the code.
-#[cfg(feature = "lists")]
 pub fn list_in(line: &[u8], record: &mut [u8]) -> (u8, u8) {
     rewrite(desk_list_in, line, record)
 }
@@ -233,9 +224,8 @@ fn rewrite(call: Rewrite, from: &[u8], to: &mut [u8]) -> (u8, u8) {
     (refusal, code)
 }
 
-fn set(call: Setter, record: &mut [u8], value: Option<i64>) -> (u8, u8) {
+fn set(call: Setter, record: &mut [u8], filled: u8, number: i64) -> (u8, u8) {
     let mut code = NO_CODE;
-    let (filled, number) = value.map_or((0, NO_NUMBER), |number| (1, number));
     // SAFETY: the pointer is good for the length of its slice, which is borrowed alone.
     let refusal = unsafe { call(record.as_mut_ptr(), record.len(), filled, number, &mut code) };
     (refusal, code)

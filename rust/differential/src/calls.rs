@@ -14,7 +14,7 @@ pub type Check = fn(&[u8]) -> (u8, u8);
 pub type Rewrite = fn(&[u8], &mut [u8]) -> (u8, u8);
 
 /// A call that sets one value of a record.
-pub type Setter = fn(&mut [u8], Option<i64>) -> (u8, u8);
+pub type Setter = fn(&mut [u8], u8, i64) -> (u8, u8);
 
 /// The same call of the library and of the peer.
 pub struct Pair<Call> {
@@ -40,11 +40,10 @@ pub const RESPELL_HEADER: Pair<Rewrite> =
     Pair { name: "respell_header", library: raw::respell_header, peer: oracle::respell_header };
 
 /// `desk_list_in`.
-#[cfg(feature = "lists")]
 pub const LIST_IN: Pair<Rewrite> =
     Pair { name: "list_in", library: raw::list_in, peer: oracle::list_in };
 
-/// The five setters; 9Y takes 0 where the others take a blank.
+/// The five setters; 9Y is never blank and has no `filled`.
 pub const SETTERS: [Pair<Setter>; 5] = [
     Pair { name: "set_power", library: raw::set_power, peer: oracle::set_power },
     Pair { name: "set_azimuth", library: raw::set_azimuth, peer: oracle::set_azimuth },
@@ -52,8 +51,8 @@ pub const SETTERS: [Pair<Setter>; 5] = [
     Pair { name: "set_height", library: raw::set_height, peer: oracle::set_height },
     Pair {
         name: "set_ground",
-        library: |record, metres| raw::set_ground(record, metres.unwrap_or(0)),
-        peer: |record, metres| oracle::set_ground(record, metres.unwrap_or(0)),
+        library: |record, _, metres| raw::set_ground(record, metres),
+        peer: |record, _, metres| oracle::set_ground(record, metres),
     },
 ];
 
@@ -71,14 +70,12 @@ impl Comparison {
         let answer = (call.library)(lent.part());
         agree(call.name, answer, (call.peer)(record), &[record]);
         untouched(call.name, &lent, record);
-        self.tally.refusal(call.name, answer.0);
-        if answer.0 == 0 || answer.0 == 9 {
-            self.tally.code(call.name, answer.1);
-        }
+        self.tally.answer(call.name, answer);
     }
 
-    /// Compares a call that reads `from` and writes into a buffer that holds `to`.
-    pub fn rewrite(&mut self, call: &Pair<Rewrite>, from: &[u8], to: &[u8]) {
+    /// Compares a call that reads `from` and writes into a buffer that holds `to`; answers what the
+    /// library left there.
+    pub fn rewrite(&mut self, call: &Pair<Rewrite>, from: &[u8], to: &[u8]) -> Vec<u8> {
         let lent = Lent::new(from);
         let (mut ours, mut theirs) = (Lent::new(to), Lent::new(to));
         let answer = (call.library)(lent.part(), ours.part_mut());
@@ -88,15 +85,16 @@ impl Comparison {
         if answer.0 != 0 {
             untouched(call.name, &ours, to);
         }
-        self.tally.refusal(call.name, answer.0);
+        self.tally.answer(call.name, answer);
+        ours.part().to_vec()
     }
 
     /// Compares a setter.
-    pub fn set(&mut self, call: &Pair<Setter>, record: &[u8], value: Option<i64>) {
+    pub fn set(&mut self, call: &Pair<Setter>, record: &[u8], filled: u8, number: i64) {
         let (mut ours, mut theirs) = (Lent::new(record), Lent::new(record));
-        let answer = (call.library)(ours.part_mut(), value);
-        let expected = (call.peer)(theirs.part_mut(), value);
-        agree(call.name, (value, answer), (value, expected), &[record]);
+        let answer = (call.library)(ours.part_mut(), filled, number);
+        let expected = (call.peer)(theirs.part_mut(), filled, number);
+        agree(call.name, (filled, number, answer), (filled, number, expected), &[record]);
         agree_bytes(call.name, &ours, &theirs, &[record]);
         if answer.0 != 0 {
             untouched(call.name, &ours, record);
@@ -154,19 +152,23 @@ impl Comparison {
         self.tally.refusal("show", answer.0);
     }
 
-    /// Compares writing a line.
-    #[cfg(feature = "lists")]
-    pub fn list_out(&mut self, record: &[u8], line: &[u8]) {
+    /// Compares writing a line into a buffer that holds `buffer`; answers the line, of no bytes
+    /// where the call is refused.
+    pub fn list_out(&mut self, record: &[u8], buffer: &[u8]) -> Vec<u8> {
         let lent = Lent::new(record);
-        let (mut ours, mut theirs) = (Lent::new(line), Lent::new(line));
-        let answer = raw::list_out(lent.part(), ours.part_mut());
-        agree("list_out", answer, oracle::list_out(record, theirs.part_mut()), &[record, line]);
-        agree_bytes("list_out", &ours, &theirs, &[record, line]);
+        let (mut ours, mut theirs) = (Lent::new(buffer), Lent::new(buffer));
+        let (refusal, length, code) = raw::list_out(lent.part(), ours.part_mut());
+        let expected = oracle::list_out(record, theirs.part_mut());
+        agree("list_out", (refusal, length, code), expected, &[record, buffer]);
+        agree_bytes("list_out", &ours, &theirs, &[record, buffer]);
         untouched("list_out", &lent, record);
-        if answer.0 != 0 {
-            untouched("list_out", &ours, line);
+        if refusal != 0 {
+            untouched("list_out", &ours, buffer);
         }
-        self.tally.refusal("list_out", answer.0);
+        self.tally.answer("list_out", (refusal, code));
+        let (line, rest) = ours.part().split_at(length);
+        assert_eq!(rest, &buffer[length..], "list_out: bytes after the line have changed");
+        line.to_vec()
     }
 }
 

@@ -42,8 +42,6 @@ pub fn case(comparison: &mut Comparison, random: &mut Random, index: usize) {
         station(comparison, random, index % 40);
     }
     setting(comparison, random);
-    #[cfg(feature = "lists")]
-    lists::case(comparison, random, index);
 }
 
 fn station(comparison: &mut Comparison, random: &mut Random, target: usize) {
@@ -77,82 +75,20 @@ fn setting(comparison: &mut Comparison, random: &mut Random) {
     let length = records::some_length(random);
     let bytes = records::resized(random, &record, length);
     let call = &SETTERS[random.below(SETTERS.len())];
-    let value = match random.below(8) {
-        0 => None,
-        1..=3 => Some(random.pick(&BORDER_VALUES)),
-        4 => Some(random.next() as i64),
-        _ => Some(random.within(-12_000, 12_000)),
+    let filled = match random.below(8) {
+        0 => 0,
+        1..=3 => random.pick(&[2, 0x7f, 0x80, u8::MAX]),
+        _ => 1,
     };
-    comparison.set(call, &bytes, value);
+    let number = match random.below(7) {
+        0..=2 => random.pick(&BORDER_VALUES),
+        3 => random.next() as i64,
+        _ => random.within(-12_000, 12_000),
+    };
+    comparison.set(call, &bytes, filled, number);
 }
 
 /// A buffer to write into, filled with some byte.
 fn buffer(random: &mut Random) -> Vec<u8> {
     vec![random.byte(); records::some_length(random)]
-}
-
-#[cfg(feature = "lists")]
-mod lists {
-    //! Lines that stations make, lines put together from fields, and damaged ones.
-
-    use peer::lists::MAX_LINE_LENGTH;
-    use peer::{Record, STATION_FIELDS};
-
-    use super::buffer;
-    use crate::calls::{Comparison, LIST_IN};
-    use crate::fields::BORDER_BYTES;
-    use crate::random::Random;
-    use crate::records;
-
-    pub fn case(comparison: &mut Comparison, random: &mut Random, index: usize) {
-        let target = if random.one_in(2) { 0 } else { index % 40 };
-        let record = records::station(random, target);
-        let length = records::some_length(random);
-        let bytes = records::resized(random, &record, length);
-        let room = random.pick(&[0, 1, 200, MAX_LINE_LENGTH, 300]);
-        let near = MAX_LINE_LENGTH - random.below(60);
-        let room = random.pick(&[room, near, MAX_LINE_LENGTH]);
-        comparison.list_out(&bytes, &vec![random.byte(); room]);
-        let line = line(random, &record);
-        let out = buffer(random);
-        comparison.rewrite(&LIST_IN, &line, &out);
-    }
-
-    /// The fields of a record as a line, trimmed here and there, and mostly not damaged.
-    fn line(random: &mut Random, record: &Record) -> Vec<u8> {
-        let mut fields = STATION_FIELDS.map(|[first, length]| &record[first - 1..][..length]);
-        for field in &mut fields {
-            if !random.one_in(3) {
-                *field = trimmed(field);
-            }
-        }
-        let mut line = fields.join(&b';');
-        line.push(b'\n');
-        let place = random.below(line.len());
-        match random.below(12) {
-            0 => line[place] = random.pick(BORDER_BYTES),
-            1 => line.insert(place, random.pick(b" ;\n0A")),
-            2 => _ = line.remove(place),
-            3 => line.truncate(place),
-            4 => line.push(random.pick(b"\n; ")),
-            5 => swap_semicolon(random, &mut line),
-            _ => {}
-        }
-        line
-    }
-
-    /// Moves one semicolon to another place, so that their number stays.
-    fn swap_semicolon(random: &mut Random, line: &mut Vec<u8>) {
-        let place = random.below(line.len() - 1);
-        if let Some(semicolon) = line.iter().position(|&byte| byte == b';') {
-            line.remove(semicolon);
-            line.insert(place, b';');
-        }
-    }
-
-    fn trimmed(field: &[u8]) -> &[u8] {
-        let start = field.iter().position(|&byte| byte != b' ').unwrap_or(field.len());
-        let end = field.iter().rposition(|&byte| byte != b' ').map_or(start, |last| last + 1);
-        &field[start..end]
-    }
 }

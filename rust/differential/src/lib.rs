@@ -1,15 +1,17 @@
 //! The desk library compared with the peer, call by call, on made input.
 //!
 //! Input is made by a generator with a fixed seed: fields in good spellings and near misses,
-//! records that break each rule in turn, damaged bytes, wrong lengths, and runs of replacements
-//! in files of up to 250 stations. Each call is made of both on equal bytes; refusals, codes,
-//! counts and every lent byte must be equal after it, and refused calls must leave all bytes.
+//! records that break each rule in turn, damaged bytes, wrong lengths, lines of semicolon lists,
+//! and runs of replacements in files of up to 250 stations. Each call is made of both on equal
+//! bytes; refusals, codes, counts and every lent byte must be equal after it, and refused calls
+//! must leave all bytes.
 
 #![forbid(unsafe_code)]
 
 mod calls;
 mod cases;
 mod fields;
+mod lines;
 mod oracle;
 mod random;
 mod records;
@@ -43,6 +45,7 @@ pub fn run(count: usize) -> Tally {
     sweeps::all(&mut comparison, &mut random);
     for index in 0..count {
         cases::case(&mut comparison, &mut random, index);
+        lines::case(&mut comparison, &mut random, index);
     }
     let mut pool = runs::Pool::new(&mut random);
     for index in 0..count.div_ceil(CASES_PER_RUN) {

@@ -42,23 +42,23 @@ pub fn respell_header(record: &[u8], out: &mut [u8]) -> (u8, u8) {
 }
 
 /// `desk_set_power`.
-pub fn set_power(record: &mut [u8], tenths: Option<i64>) -> (u8, u8) {
-    set(record, |station| station.set_power(tenths.map(Tenths)))
+pub fn set_power(record: &mut [u8], filled: u8, tenths: i64) -> (u8, u8) {
+    set(record, |station| station.set_power(stated(filled, tenths).map(Tenths)))
 }
 
 /// `desk_set_azimuth`.
-pub fn set_azimuth(record: &mut [u8], tenths: Option<i64>) -> (u8, u8) {
-    set(record, |station| station.set_azimuth(tenths.map(Tenths)))
+pub fn set_azimuth(record: &mut [u8], filled: u8, tenths: i64) -> (u8, u8) {
+    set(record, |station| station.set_azimuth(stated(filled, tenths).map(Tenths)))
 }
 
 /// `desk_set_elevation`.
-pub fn set_elevation(record: &mut [u8], tenths: Option<i64>) -> (u8, u8) {
-    set(record, |station| station.set_elevation(tenths.map(Tenths)))
+pub fn set_elevation(record: &mut [u8], filled: u8, tenths: i64) -> (u8, u8) {
+    set(record, |station| station.set_elevation(stated(filled, tenths).map(Tenths)))
 }
 
 /// `desk_set_height`.
-pub fn set_height(record: &mut [u8], metres: Option<i64>) -> (u8, u8) {
-    set(record, |station| station.set_height(metres.map(Metres)))
+pub fn set_height(record: &mut [u8], filled: u8, metres: i64) -> (u8, u8) {
+    set(record, |station| station.set_height(stated(filled, metres).map(Metres)))
 }
 
 /// `desk_set_ground`.
@@ -67,7 +67,6 @@ pub fn set_ground(record: &mut [u8], metres: i64) -> (u8, u8) {
 }
 
 /// `desk_list_out`.
-#[cfg(feature = "lists")]
 pub fn list_out(record: &[u8], line: &mut [u8]) -> (u8, usize, u8) {
     let answer = Station::read(record).and_then(|station| peer::lists::write_line(&station, line));
     let (refusal, code) = numbers(&answer);
@@ -75,12 +74,16 @@ pub fn list_out(record: &[u8], line: &mut [u8]) -> (u8, usize, u8) {
 }
 
 /// `desk_list_in`.
-#[cfg(feature = "lists")]
 pub fn list_in(line: &[u8], record: &mut [u8]) -> (u8, u8) {
     if record.len() != RECORD_LENGTH {
         return numbers::<()>(&Err(Refusal::BufferLength));
     }
     numbers(&peer::lists::read_line(line).and_then(|station| station.write(record)))
+}
+
+/// A value as the boundary states it: blank where `filled` is 0.
+fn stated(filled: u8, number: i64) -> Option<i64> {
+    (filled != 0).then_some(number)
 }
 
 fn set(record: &mut [u8], change: impl FnOnce(Station) -> Result<Station, Refusal>) -> (u8, u8) {

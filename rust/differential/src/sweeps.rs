@@ -2,7 +2,10 @@
 
 use peer::{Record, HEADER_FIELDS, STATION_FIELDS};
 
-use crate::calls::{Comparison, HEADER_CODE, RESPELL_HEADER, RESPELL_STATION, STATION_CODE};
+use crate::calls::{
+    Comparison, HEADER_CODE, LIST_IN, RESPELL_HEADER, RESPELL_STATION, STATION_CODE,
+};
+use crate::lines;
 use crate::random::Random;
 use crate::records;
 
@@ -33,6 +36,15 @@ pub fn all(comparison: &mut Comparison, random: &mut Random) {
         every_word(comparison, &sample(random, class), code, alphabet);
     }
     every_date(comparison, &station, &header);
+    for class in [b"FB", b"FL", b"ML"] {
+        let station = sample(random, class);
+        let line = lines::line(&station).expect("the station holds");
+        every_room(comparison, random, &station, &line);
+        every_line_byte(comparison, &line);
+        every_cut(comparison, &line);
+        every_field_length(comparison, &station);
+        every_number_of_marks(comparison, &line);
+    }
 }
 
 /// A station of this class that breaks no rule and has 1A and 9B filled.
@@ -106,5 +118,65 @@ fn every_date(comparison: &mut Comparison, station: &Record, header: &Record) {
         let mut record = *header;
         records::put(&mut record, &HEADER_FIELDS, 10, date.as_bytes());
         comparison.rewrite(&RESPELL_HEADER, &record, &[0; 219]);
+    }
+}
+
+/// A station's line written into buffers of every length up to well above the longest line's.
+fn every_room(comparison: &mut Comparison, random: &mut Random, station: &Record, line: &[u8]) {
+    for length in 0..300 {
+        let buffer = lines::noise(random, length);
+        let written = comparison.list_out(station, &buffer);
+        assert_eq!(written, if length < line.len() { &[] } else { line });
+    }
+}
+
+/// Every byte at every place of a line: in place of what stands there, and before it.
+fn every_line_byte(comparison: &mut Comparison, line: &[u8]) {
+    for place in 0..line.len() {
+        for byte in 0..=u8::MAX {
+            let mut changed = line.to_vec();
+            changed[place] = byte;
+            comparison.rewrite(&LIST_IN, &changed, &[0; 219]);
+            let mut longer = line.to_vec();
+            longer.insert(place, byte);
+            comparison.rewrite(&LIST_IN, &longer, &[0; 219]);
+        }
+    }
+}
+
+/// A line without its first bytes, without its last ones, and without one of them.
+fn every_cut(comparison: &mut Comparison, line: &[u8]) {
+    for place in 0..line.len() {
+        comparison.rewrite(&LIST_IN, &line[place..], &[0; 219]);
+        comparison.rewrite(&LIST_IN, &line[..place], &[0; 219]);
+        let mut shorter = line.to_vec();
+        shorter.remove(place);
+        comparison.rewrite(&LIST_IN, &shorter, &[0; 219]);
+    }
+}
+
+/// Each field at every length up to a few bytes more than its columns, of spaces, digits or letters.
+fn every_field_length(comparison: &mut Comparison, station: &Record) {
+    for field in 0..STATION_FIELDS.len() {
+        for length in 0..STATION_FIELDS[field][1] + 4 {
+            for byte in *b" 0A" {
+                let text = vec![byte; length];
+                let mut fields = lines::fields(station);
+                fields[field] = &text;
+                comparison.rewrite(&LIST_IN, &lines::joined(&fields), &[0; 219]);
+            }
+        }
+    }
+}
+
+/// A line with every number of semicolons and of line feeds, up to more than a byte can count.
+fn every_number_of_marks(comparison: &mut Comparison, line: &[u8]) {
+    for mark in *b";\n" {
+        let rest: Vec<u8> = line.iter().copied().filter(|&byte| byte != mark).collect();
+        for count in 0..600 {
+            let marks = vec![mark; count];
+            comparison.rewrite(&LIST_IN, &[&marks, &rest[..]].concat(), &[0; 219]);
+            comparison.rewrite(&LIST_IN, &[&rest[..], &marks].concat(), &[0; 219]);
+        }
     }
 }

@@ -17,9 +17,7 @@ const REFUSALS: &[(&str, &[u8])] = &[
     ("set_elevation", &[0, 6, 9]),
     ("set_height", &[0, 6, 9]),
     ("set_ground", &[0, 6, 9]),
-    #[cfg(feature = "lists")]
     ("list_out", &[0, 6, 9, 12]),
-    #[cfg(feature = "lists")]
     ("list_in", &[0, 7, 9, 10, 11]),
 ];
 
@@ -29,6 +27,8 @@ pub struct Tally {
     refusals: BTreeMap<(&'static str, u8), u64>,
     station_codes: BTreeMap<u8, u64>,
     header_codes: BTreeMap<u8, u64>,
+    list_out_codes: BTreeMap<u8, u64>,
+    list_in_codes: BTreeMap<u8, u64>,
     row_codes: BTreeMap<u8, u64>,
     sheet_header_codes: BTreeMap<u8, u64>,
     rows_written: BTreeMap<usize, u64>,
@@ -41,14 +41,19 @@ impl Tally {
         *self.refusals.entry((call, refusal)).or_default() += 1;
     }
 
-    /// Counts the code of one record.
-    pub fn code(&mut self, call: &'static str, code: u8) {
+    /// Counts a call, its refusal and, where one was looked for, its code.
+    pub fn answer(&mut self, call: &'static str, (refusal, code): (u8, u8)) {
+        self.refusal(call, refusal);
         let codes = match call {
             "station_code" => &mut self.station_codes,
             "header_code" => &mut self.header_codes,
+            "list_out" => &mut self.list_out_codes,
+            "list_in" => &mut self.list_in_codes,
             _ => return,
         };
-        *codes.entry(code).or_default() += 1;
+        if refusal == 0 || refusal == 9 {
+            *codes.entry(code).or_default() += 1;
+        }
     }
 
     /// Counts the codes and twins of a judged sheet.
@@ -83,6 +88,8 @@ impl Tally {
         }
         assert_met("station_code", &self.station_codes, 39);
         assert_met("header_code", &self.header_codes, 14);
+        assert_met("list_out", &self.list_out_codes, 39);
+        assert_met("list_in", &self.list_in_codes, 39);
         assert_met("row", &self.row_codes, 39);
         assert_met("sheet's header", &self.sheet_header_codes, 15);
         assert!(self.twins > 0, "no twin was met");
@@ -113,6 +120,8 @@ impl fmt::Display for Tally {
         }
         write_codes(f, "station codes", &self.station_codes)?;
         write_codes(f, "header codes", &self.header_codes)?;
+        write_codes(f, "codes, list_out", &self.list_out_codes)?;
+        write_codes(f, "codes, list_in", &self.list_in_codes)?;
         write_codes(f, "codes in rows", &self.row_codes)?;
         write_codes(f, "codes in trailers", &self.sheet_header_codes)?;
         let rows = self.rows_written.iter().map(|(rows, count)| *rows as u64 * count).sum::<u64>();
