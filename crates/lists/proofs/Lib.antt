@@ -12,4 +12,5 @@ pub mod FillLaws
 pub mod OutLaws
 pub mod CallLaws
 pub mod RecordLaws
+pub mod WholeLaws
 pub mod Unique

@@ -2,5 +2,6 @@ pub mod Fields
 pub mod Lines
 pub mod Outcomes
 pub mod Calls
+pub mod Whole
 pub mod Promises
 pub mod Examples

@@ -1,0 +1,27 @@
+-- Document 02, wish 1: a whole list, and the records that its lines say.
+use Prim.Native.Nat.{ℕ}
+use mathlib.Core.Bool.{cond}
+use mathlib.Core.List.{List, [], _∷_, _++_}
+use Rattle.station.specs.Spelling.{spellStation}
+use Rattle.lists.specs.Lines.{isFeed}
+use Rattle.lists.specs.Outcomes.{ifListed}
+use Rattle.lists.specs.Calls.{lineOutcome, stationInLine}
+
+-- A byte put before the first of some lines.
+abbrev pub ontoFirst : ℕ → List (List ℕ) → List (List ℕ)
+ontoFirst c [] = (c ∷ []) ∷ []
+ontoFirst c (l ∷ ls) = (c ∷ l) ∷ ls
+
+-- The lines of a list: each ends with its line feed, and what stands behind the last one is a line too, where anything does.
+unfoldable pub linesOf : List ℕ → List (List ℕ)
+linesOf [] = []
+linesOf (c ∷ t) = cond (isFeed c) ((c ∷ []) ∷ linesOf t) (ontoFirst c (linesOf t))
+
+-- The record that a line brings in, in the one spelling; none where the line is refused.
+unfoldable pub broughtIn : List ℕ → List ℕ
+broughtIn l = ifListed (lineOutcome l) (spellStation (stationInLine l)) []
+
+-- The records that some lines bring in.
+abbrev pub recordsOf : List (List ℕ) → List ℕ
+recordsOf [] = []
+recordsOf (l ∷ ls) = broughtIn l ++ recordsOf ls
