@@ -4,6 +4,7 @@ pub mod SheetLaws
 pub mod ReportLaws
 pub mod ListLaws
 pub mod ListLines
+pub mod ListBack
 pub mod Unique
 pub mod Plain
 pub mod Worked

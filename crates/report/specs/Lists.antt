@@ -1,9 +1,10 @@
 -- Document 02, wish 1: the semicolon list of a whole file.
 use Prim.Native.Nat.{ℕ}
 use mathlib.Core.Bool.{cond}
-use mathlib.Core.List.{List}
+use mathlib.Core.List.{List, []}
 use lib.Dec.{eqb}
 use Rattle.filing.specs.Outcomes.{refusal, ifDone}
+use Rattle.station.specs.Spelling.{spellStation}
 use Rattle.station.specs.Codes.{valueOf, stationCode}
 use Rattle.files.specs.Files.{stations, recordAt}
 use Rattle.sheet.specs.Counting.{rows}
@@ -22,3 +23,7 @@ entryOf file k = entry k (recordAt file k)
 -- The list of a file: what it has for each station in turn, and on a refusal its one line.
 unfoldable pub listOf : List ℕ → List ℕ
 listOf file = ifDone (lengthOutcome file) (rows (entryOf file) (stations file)) (refusedLine (refusal (lengthOutcome file)))
+
+-- What comes back for station k of a file that went out as a list: its one spelling, and nothing where it breaks a rule.
+unfoldable pub returned : List ℕ → ℕ → List ℕ
+returned file k = cond (eqb (stationCode (recordAt file k)) 0) (spellStation (valueOf (recordAt file k))) []
