@@ -28,6 +28,7 @@ some-lines c t = by (isFeed c) refl where
   some : (ls : List (List ℕ)) → 1 ≤ length (ontoFirst c ls)
   some [] = omega arith
   some (l ∷ ls) = omega arith
+
   by : (b : Bool) → isFeed c ≡ b → 1 ≤ length (linesOf (c ∷ t))
   by true z = rw z (omega arith)
   by false z = rw z (some (linesOf t))
@@ -61,6 +62,7 @@ one-of-lines (c ∷ []) n h = rw (eq-eqb c 10 h)
 one-of-lines (c ∷ d ∷ t) n h = by (λ m. one-of-lines (d ∷ t) m (rest h)) (isFeed c) refl where
   rest : lastByte (c ∷ d ∷ t) ≡ 10 → lastByte (d ∷ t) ≡ 10
   rest e = sym (last-cons c (d ∷ t) (omega arith)) ∙ e
+
   by : (howMany isFeed (d ∷ t) ≡ 1 → linesOf (d ∷ t) ≡ (d ∷ t) ∷ []) → (e : Bool) → isFeed c ≡ e → linesOf (c ∷ d ∷ t) ≡ (c ∷ d ∷ t) ∷ []
   by one true z = absurd (omega (arith, feed-counts d t (rest h), rw z at n))
   by one false z = rw z (ap (ontoFirst c) (one (sym (zero-add (howMany isFeed (d ∷ t))) ∙ (rw z at n))))
