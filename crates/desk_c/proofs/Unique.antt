@@ -8,10 +8,8 @@ use Rattle.filing.specs.declared.Outcome.{Outcome}
 use Rattle.station.specs.Calls.{readOutcome}
 use Rattle.station.specs.Setting.{withPower, withAzimuth, withElevation, withHeight, withGround}
 use Rattle.station.specs.declared.Station.{Station}
-use Rattle.lists.specs.Calls.{recordListing, lineFiling}
-use Rattle.lists.specs.declared.Listed.{Listed}
 use Rattle.header.specs.Calls.{readHeaderOutcome}
-use Rattle.desk_c.specs.Endings.{Answered, AnsweredOnLine, Ended}
+use Rattle.desk_c.specs.Endings.{Answered, Ended}
 use Rattle.desk_c.specs.Records.{respellOutcome, respelledStation, respellHeaderOutcome, respelledHeader, changeOutcome, changedRecord, tenthsStated, heightStated}
 use Rattle.desk_c.specs.Promises.{StationCoded, HeaderCoded, StationRespelled, HeaderRespelled, RecordChanged, PowerChanged, AzimuthChanged, ElevationChanged, HeightChanged, GroundChanged, FilingJudged, FilingReplaced, FieldLocated, RecordLineOut, LineRecordIn}
 
@@ -74,22 +72,14 @@ pub one-replacing : (file sheet : List ℕ) (k : ℕ) (r : List ℕ) (a b : ℕ)
     → FilingReplaced file sheet k r a f x m → FilingReplaced file sheet k r b g y n → (a ≡ b) × (f ≡ g) × (x ≡ y) × (m ≡ n)
 one-replacing file sheet k r a b f g x y m n p q = (p .0 ∙ sym (q .0), p .1 ∙ sym (q .1), p .2 ∙ sym (q .2), p .3 ∙ sym (q .3))
 
--- and `desk_show` one answer, one offset and one length.
+-- `desk_show` one answer, one offset and one length,
 pub one-showing : (file : List ℕ) (k j : ℕ) (a b c d m n : ℕ) → FieldLocated file k j a c m → FieldLocated file k j b d n → (a ≡ b) × (c ≡ d) × (m ≡ n)
 one-showing file k j a b c d m n p q = (p .0 ∙ sym (q .0), p .1 ∙ sym (q .1), p .2 ∙ sym (q .2))
 
--- One outcome of a call on a line has one number and one code,
-pub one-answer-on-line : (o : Listed) (a b c d : ℕ) → AnsweredOnLine o a c → AnsweredOnLine o b d → (a ≡ b) × (c ≡ d)
-one-answer-on-line o a b c d p q = (p .0 ∙ sym (q .0), p .1 ∙ sym (q .1))
-
--- so that `desk_list_out` leaves one answer, one code, one content of the buffer and one length,
+-- `desk_list_out` one answer, one code, one content of the buffer and one length of the line,
 pub one-line-out : (r before : List ℕ) (a b c d m n : ℕ) (x y : List ℕ) → RecordLineOut r before a x m c → RecordLineOut r before b y n d → (a ≡ b) × (c ≡ d) × (x ≡ y) × (m ≡ n)
-one-line-out r before a b c d m n x y p q =
-    let e = one-answer-on-line (recordListing r before) a b c d (p .0) (q .0) in
-    (e .0, e .1, p .1 ∙ sym (q .1), p .2 ∙ sym (q .2))
+one-line-out r before a b c d m n x y p q = (p .0 .0 ∙ sym (q .0 .0), p .0 .1 ∙ sym (q .0 .1), p .1 ∙ sym (q .1), p .2 ∙ sym (q .2))
 
 -- and `desk_list_in` one answer, one code and one content of the record.
 pub one-line-in : (t before : List ℕ) (a b c d : ℕ) (x y : List ℕ) → LineRecordIn t before a x c → LineRecordIn t before b y d → (a ≡ b) × (c ≡ d) × (x ≡ y)
-one-line-in t before a b c d x y p q =
-    let e = one-answer-on-line (lineFiling t before) a b c d (p .0) (q .0) in
-    (e .0, e .1, p .1 ∙ sym (q .1))
+one-line-in t before a b c d x y p q = (p .0 .0 ∙ sym (q .0 .0), p .0 .1 ∙ sym (q .0 .1), p .1 ∙ sym (q .1))
