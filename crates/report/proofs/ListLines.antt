@@ -1,12 +1,14 @@
 -- Line k of a list is what it has for station k: each of them has one line feed, the last byte. The line of a station that breaks a rule
 -- is none that can be read. Assumes nothing.
 use mathlib.Core.Path.{_≡_, refl, sym, ap, _∙_}
+use mathlib.Core.Logic.{⊎-elim}
 use mathlib.Core.Bool.{Bool, true, false, _&&_}
-use mathlib.Core.List.{List, [], _∷_, _++_, append-assoc}
-use Prim.Native.Nat.{ℕ, zero, suc, _+_, _*_, _≤_}
+use mathlib.Core.List.{List, [], _∷_, _++_, append-assoc, append-nil}
+use Prim.Native.Nat.{ℕ, zero, suc, _+_, _*_, _≤_, _<_}
 use Prim.Native.String.{String}
 use native.Mathlib.Omega.{arith}
-use native.Mathlib.Nat.{zero-add}
+use native.Mathlib.Nat.{zero-add, eq-or-lt-of-le}
+use native.Mathlib.Numerals.{add-one}
 use lib.Dec.{eqb}
 use lib.ListN.{length}
 use borrow.Author.Tests.{eqb-true}
@@ -102,3 +104,40 @@ pub list-lines : (file : List ℕ) → done (lengthOutcome file) ≡ true → ho
 list-lines file t =
     let whole = whole-records file outcome.Done t in
     rw (whole-list file t) (entry-lines file (stations file) (omega (arith, whole .1)))
+
+-- A text has so many lines before a given one.
+pub record LineAt (whole : List ℕ) (i : ℕ) (line : List ℕ) : Type 0 where
+  pub before : List ℕ
+  pub rest : List ℕ
+  pub is : whole ≡ before ++ (line ++ rest)
+  pub count : howMany isFeed before ≡ i
+
+-- one line more does not move it
+line-stays : (whole more line : List ℕ) (i : ℕ) → LineAt whole i line → LineAt (whole ++ more) i line
+line-stays whole more line i l =
+    record {
+      before = l .before;
+      rest = l .rest ++ more;
+      is = ap (λ (t : List ℕ). t ++ more) (l .is) ∙ append-assoc (l .before) (line ++ l .rest) more ∙ ap (λ (t : List ℕ). l .before ++ t) (append-assoc line (l .rest) more);
+      count = l .count;
+    }
+
+entry-at : (file : List ℕ) (n i : ℕ) → 219 * n + 219 ≤ length file → i < n → LineAt (rows (entryOf file) n) i (entryOf file (i + 1))
+entry-at file zero i h l = absurd (omega arith)
+entry-at file (suc n) i h l =
+    ⊎-elim
+    (λ (e : i ≡ n).
+    record {
+      before = rows (entryOf file) n;
+      rest = [];
+      is = rw (e, add-one n, append-nil (entryOf file (suc n)));
+      count = rw e (entry-lines file n (omega arith));
+    })
+    (λ (m : i < n). line-stays (rows (entryOf file) n) (entryOf file (suc n)) (entryOf file (i + 1)) i (entry-at file n i (omega arith) m))
+    (eq-or-lt-of-le (omega arith))
+
+-- The line behind i others is that of station i + 1.
+pub station-line : (file : List ℕ) → done (lengthOutcome file) ≡ true → (i : ℕ) → i < stations file → LineAt (listOf file) i (entryOf file (i + 1))
+station-line file t i l =
+    let whole = whole-records file outcome.Done t in
+    rw (whole-list file t) (entry-at file (stations file) i (omega (arith, whole .1)) l)

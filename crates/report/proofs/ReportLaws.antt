@@ -56,10 +56,15 @@ whole-list file e = rw e
 
 -- What is put in from the first byte on, and is the text, is the text written.
 pub written : {whole text out after : List ℕ} {answer : ℕ} → whole ≡ text → Appended out 0 text after answer → Written whole out answer after
-written {whole} {text} e s = rw e (s .ends ∙ zero-add (length text), s .stands ∙ rw (zero-add (length text)))
+written {whole} {text} e s =
+    rw e
+    record {
+      size = s .ends ∙ zero-add (length text);
+      stands = s .stands ∙ rw (zero-add (length text));
+    }
 
 -- A text that was written ends within the lent bytes.
 pub within : (text out : List ℕ) {after : List ℕ} {answer : ℕ} → Written text out answer after → answer ≤ length after
 within text out {after} w =
-    let l : length after ≡ length text + length (drop (length text) out) = ap length (w .1) ∙ length-append text (drop (length text) out) in
-    omega (arith, w .0)
+    let l : length after ≡ length text + length (drop (length text) out) = ap length (w .stands) ∙ length-append text (drop (length text) out) in
+    omega (arith, w .size)

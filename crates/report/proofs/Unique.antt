@@ -9,7 +9,7 @@ use Rattle.report.specs.Promises.{Written, ReportWritten, ListWritten}
 
 -- A text is written into one buffer in one way.
 one-written : (text out : List ℕ) (r r′ : ℕ) (after after′ : List ℕ) → Written text out r after → Written text out r′ after′ → (r ≡ r′) × (after ≡ after′)
-one-written text out r r′ after after′ p q = (p .0 ∙ sym (q .0), p .1 ∙ sym (q .1))
+one-written text out r r′ after after′ p q = (p .size ∙ sym (q .size), p .stands ∙ sym (q .stands))
 
 -- Two answers of `write_report` to one file and one buffer are equal, and so is what they leave there.
 pub one-report : (file out : List ℕ) (r r′ : ℕ) (after after′ : List ℕ) → ReportWritten file out r after → ReportWritten file out r′ after′

@@ -7,7 +7,7 @@ use Prim.Native.String.{String}
 use Rattle.columns.specs.Numbers.{spellDigits}
 use Rattle.columns.specs.Texts.{bytes, every}
 use Rattle.sheet.specs.Sheets.{rowIn, bad, headIn}
-use Rattle.report.specs.Lines.{places, decimal, lineFeed, headerLine, stationLine, totalLine}
+use Rattle.report.specs.Lines.{places, decimal, lineFeed, headerLine, stationLine, totalLine, brokenLine}
 use Rattle.report.specs.Reports.{rowLine, sheetLines, sheetReport}
 
 -- A line and its end.
@@ -29,3 +29,8 @@ header-alone = refl
 pub three-widths : stationLine 250 39 7 ≡ line "station 250 code 39 twin 7"
 unfolding stationLine decimal places spellDigits
 three-widths = refl
+
+-- A station that breaks a rule, in a list.
+pub in-its-place : brokenLine 250 7 ≡ line "station 250 code 7"
+unfolding brokenLine decimal places spellDigits
+in-its-place = refl

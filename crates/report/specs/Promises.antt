@@ -8,8 +8,9 @@ use Rattle.report.specs.Reports.{reportOf}
 use Rattle.report.specs.Lists.{listOf}
 
 -- A text written first into lent bytes: its length is answered, and behind its end stands what stood there.
-abbrev pub Written : List ℕ → List ℕ → ℕ → List ℕ → Type 0
-Written text out answer after = (answer ≡ length text) × (after ≡ text ++ drop (length text) out)
+pub record Written (text out : List ℕ) (answer : ℕ) (after : List ℕ) : Type 0 where
+  pub size : answer ≡ length text
+  pub stands : after ≡ text ++ drop (length text) out
 
 -- `write_report`: the report's length, and the report before the bytes that stood behind its end.
 abbrev pub ReportWritten : List ℕ → List ℕ → ℕ → List ℕ → Type 0

@@ -8,15 +8,9 @@ use filing::outcomes::is_done;
 use filing::outcomes::refusal_number;
 use lists::outcomes::listed_code;
 use lists::records::record_to_line;
-ghost use mathlib.Core.Path.{_≡_};
-ghost use mathlib.Core.Bool.{true};
 ghost use Prim.Native.Nat.{_+_, _*_, _≤_};
 ghost use lib.ListN.{length};
-ghost use lib.Dec.{eqb};
-ghost use Rattle.filing.specs.Outcomes.{refusal};
-ghost use Rattle.files.specs.Files.{stations};
 ghost use Rattle.sheet.specs.Counting.{rows};
-ghost use Rattle.report.specs.Reports.{lengthOutcome};
 ghost use Rattle.report.specs.Lists.{entryOf};
 ghost use Rattle.report.specs.Promises.{Appended, ListWritten};
 
@@ -31,7 +25,7 @@ fn put_entry(out: &mut [u8], start: usize, file: &[u8], i: usize) -> usize
     let written = record_to_line(record_in(file, k), &mut out[start..]);
     let outcome = written.outcome;
     let code = listed_code(outcome);
-    if code != 0 {
+    if code > 0 {
         return put_broken(out, start, k as u8, code);
     }
     start + written.length
