@@ -3,15 +3,17 @@
 use mathlib.Core.Path.{_≡_, refl, sym, ap, _∙_}
 use mathlib.Core.Bool.{true, false, cond}
 use mathlib.Core.List.{List, [], _∷_, _++_, append-assoc, append-nil}
-use Prim.Native.Nat.{ℕ, suc, _+_, _-_, _≤_, _<_}
+use Prim.Native.Nat.{ℕ, zero, suc, _+_, _-_, _≤_, _<_}
 use native.Mathlib.Omega.{arith}
 use native.Mathlib.Nat.{sub-zero, zero-add, add-sub-cancel-left}
 use native.Mathlib.Numerals.{add-one}
 use lib.Dec.{ltb, eqb}
 use lib.ListN.{length, getD, take, drop, replicate, length-append, length-drop, length-replicate, replicate-append-replicate, drop-of-length-le}
 use lib.Seq.{take-at, drop-at, drop-cons, drop-drop, length-take-le, take-all}
-use borrow.Author.Tests.{eq-eqb, le-leb, lt-leb, lt-ltb}
-use Rattle.filing.specs.Fields.{placeOf, joined}
+use borrow.Author.Tests.{eq-eqb, le-leb, lt-leb, ltb-true}
+use Rattle.columns.specs.Texts.{every}
+use Rattle.columns.proofs.TextLaws.{and-split}
+use Rattle.filing.specs.Fields.{joined}
 use Rattle.lists.specs.Fields.{missing, paddedField, spacesBefore, paddedFields, noneLonger}
 use Rattle.lists.specs.Lines.{before, behind, split}
 use Rattle.lists.specs.declared.Side.{Side}
@@ -65,13 +67,23 @@ put-between s w a p blanks h e b =
     let room : a + length p ≤ w = rw e (room-behind s w (length p) h) in
     rw (b, take-spaces a w (omega arith), drop-spaces (a + length p) w room, e) (sym (padded-between s w p h))
 
--- The columns of the field behind k fields.
-pub width-next : (qs : List (ℕ × ℕ)) (k : ℕ) → placeOf qs (k + 1) .length ≡ getD qs k (0, 0) .1
-unfolding placeOf
-width-next qs k =
-    let back : suc k - 1 ≡ k = omega arith in
-    let some : ltb 0 (suc k) ≡ true = lt-ltb 0 (suc k) (omega arith) in
-    rw (add-one k, back, some)
+-- how many columns each of some places has
+abbrev pub widths : List (ℕ × ℕ) → List ℕ
+widths [] = []
+widths (q ∷ qs) = q .1 ∷ widths qs
+
+-- The columns of the field behind k fields, read from those alone.
+pub width-at : (qs : List (ℕ × ℕ)) (k : ℕ) → getD (widths qs) k 0 ≡ getD qs k (0, 0) .1
+width-at [] k = refl
+width-at (q ∷ qs) zero = refl
+width-at (q ∷ qs) (suc k) = width-at qs k
+
+-- What is in a list whose numbers are all below a limit is below it, and so is the 0 behind its end.
+pub all-below : (m : ℕ) (xs : List ℕ) (k : ℕ) → 0 < m → every (λ x. ltb x m) xs ≡ true → getD xs k 0 < m
+unfolding every
+all-below m [] k h e = h
+all-below m (x ∷ xs) zero h e = ltb-true x m (and-split (ltb x m) (every (λ y. ltb y m) xs) e .0)
+all-below m (x ∷ xs) (suc k) h e = all-below m xs k h (and-split (ltb x m) (every (λ y. ltb y m) xs) e .1)
 
 -- The field that begins at a place, where it ends and where the next one begins.
 pub field-found : (line : List ℕ) (at n : ℕ) (rest : List ℕ) → at ≤ length line → rest ≡ drop at line

@@ -2,7 +2,6 @@
 use crate::Side;
 use columns::texts::write_blank;
 use columns::texts::write_text;
-use station::places::station_place;
 ghost use mathlib.Core.Path.{_≡_};
 ghost use mathlib.Core.List.{_++_};
 ghost use Prim.Native.Nat.{_+_, _≤_, _<_};
@@ -53,12 +52,47 @@ pub(crate) fn side_after(k: usize) -> Side
     SIDES[k]
 }
 
+// How many columns each of them has, as the table of their places says; a small table of bytes, since each field asks it.
+const WIDTHS: [u8; 30] = [
+    11, // 1A
+    1, // the unit of 1A
+    1, // 1Z
+    2, // 6A
+    2, // 6B
+    2, // 6Z
+    1, // 10Z
+    8, // 2C
+    20, // 4A
+    3, // 4B
+    15, // 4C
+    5, // 4D
+    4, // 4Z
+    9, // 7A
+    6, // 8B1
+    1, // 8B2
+    5, // 9A
+    5, // 9B
+    2, // 9D
+    4, // 9G
+    4, // 9Y
+    7, // 9XH
+    7, // 9XV
+    11, // 1Y
+    1, // the unit of 1Y
+    50, // 13Z
+    1, // 13Y
+    8, // 2W
+    8, // 2Z
+    15, // 13X
+];
+
 // The columns of the field that k fields stand before.
 pub(crate) fn width_after(k: usize) -> usize
     requires { ⌜ k < 30 ⌝ }
     ensures { λ r. ⌜ r ≡ getD stationPlaces k (0, 0) .1 ⌝ }
 {
-    station_place(k + 1).length
+    let width = WIDTHS[k];
+    width as usize
 }
 
 // How many spaces stand before a field of n bytes in w columns.

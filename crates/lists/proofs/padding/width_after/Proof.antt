@@ -1,19 +1,23 @@
--- `lists::padding::width_after` meets its contract. Assumes nothing.
-use mathlib.Core.Path.{ap, _∙_}
-use Rattle.filing.specs.declared.Place.{Place}
-use Rattle.lists.proofs.FillLaws.{width-next}
-use borrow.Author.Needs.{needs}
+-- `lists::padding::width_after` meets its contract: the small table is that of the places. Assumes nothing.
+use mathlib.Core.Path.{refl}
+use native.Mathlib.Omega.{arith}
+use mir.Syntax.{w64}
+use Rattle.columns.specs.Texts.{every}
+use Rattle.station.specs.Places.{stationPlaces}
+use Rattle.lists.proofs.FillLaws.{widths, width-at, all-below}
+use borrow.Author.Needs.{needs, fits-under}
 use Rattle.lists.proofs.padding.width_after.Statement.{statement}
 use Rattle.lists.proofs.padding.width_after.Tie as tie
 
-add-station-place : tie.Need-add-station-place
-add-station-place c = search needs
+array-read-width : tie.Need-array-read-width
+array-read-width c = search needs
 
-station-place-requires : tie.Need-station-place-requires
-station-place-requires c κs = search needs
+cast-result : tie.Need-cast-result
+unfolding every
+cast-result c = fits-under w64 _ 256 (all-below 256 (widths stationPlaces) (c .args .k) (omega arith) refl) tt
 
 returns : tie.Need-returns
-returns c = ap (λ (p : Place). p .length) (c .station-place .ensures) ∙ width-next _ _
+returns c = width-at stationPlaces (c .args .k)
 
 pub width-after-spec : {M : Type 1} → statement M
-width-after-spec = tie.close (tie.spec add-station-place station-place-requires returns)
+width-after-spec = tie.close (tie.spec array-read-width cast-result returns)
