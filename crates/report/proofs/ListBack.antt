@@ -1,8 +1,8 @@
 -- A list brings in the stations that went out: out and in again, each record that breaks no rule comes back in its one
 -- spelling, in its order, and one that breaks a rule does not. Assumes nothing.
-use mathlib.Core.Path.{_≡_, refl, sym, ap, _∙_}
+use mathlib.Core.Path.{_≡_, refl, ap, _∙_}
 use mathlib.Core.Bool.{Bool, true, false}
-use mathlib.Core.List.{List, [], _∷_, _++_, append-nil}
+use mathlib.Core.List.{List, [], _∷_, append-nil}
 use Prim.Native.Nat.{ℕ, zero, suc, _+_, _*_, _≤_}
 use native.Mathlib.Omega.{arith}
 use lib.Dec.{eqb}
@@ -16,9 +16,8 @@ use Rattle.files.specs.Files.{stations, recordAt}
 use Rattle.files.proofs.FileLaws.{record-wide}
 use Rattle.files.proofs.LengthLaws.{done, whole-records}
 use Rattle.sheet.specs.Counting.{rows}
-use Rattle.lists.specs.Lines.{isFeed, lineOf}
 use Rattle.lists.specs.Outcomes.{listedRefusal, ifListed}
-use Rattle.lists.specs.Whole.{linesOf, broughtIn, recordsOf}
+use Rattle.lists.specs.Whole.{linesFrom, linesOf, broughtIn, recordsOf}
 use Rattle.lists.proofs.LineLaws.{lastByte, last-append}
 use Rattle.lists.proofs.WholeLaws.{lines-append, one-of-lines, records-append, brought-back}
 use Rattle.report.specs.Lines.{brokenLine}
@@ -65,7 +64,7 @@ module _ (file : List ℕ) where
 
   -- and bring back the first n stations
   rows-back : (n : ℕ) → 219 * n + 219 ≤ length file → recordsOf (linesOf (rows (entryOf file) n)) ≡ rows (returned file) n
-  unfolding linesOf
+  unfolding linesFrom
   rows-back zero h = refl
   rows-back (suc n) h =
       let before = rows (entryOf file) n in
