@@ -1,15 +1,13 @@
 // A semicolon list comes in on standard input; the record of each line that is accepted goes to standard output, and a line
 // that is refused is named on standard error.
 use gathering::Gathered;
+use gathering::cutting::line_end;
 use gathering::lines::gather;
 use gathering::lines::nothing;
 use gathering::records::file_gathered;
-use lists::Listed;
 use lists::outcomes::is_listed;
 use lists::outcomes::listed_code;
 use lists::outcomes::listed_number;
-ghost use Prim.Native.Nat.{_≤_, _<_};
-ghost use lib.ListN.{length};
 
 // How far the list is read: what is kept of the line that is gathered, how many lines have ended, and how many of them were
 // written as records and refused.
@@ -98,26 +96,15 @@ fn take_part(line: &mut [u8; 250], progress: Progress, part: &[u8]) -> Progress 
     further
 }
 
-// Where the line that goes on at a place of a piece ends: behind its line feed, or where the piece does.
-fn line_end(piece: &[u8], at: usize) -> usize
-    requires { ⌜ at < length (now piece) ⌝ }
-    ensures { λ r. ⌜ (at < r) × (r ≤ length (now (piece .entry))) ⌝ }
-{
-    let end = bytes::scan::find(piece, at, piece.len(), 10);
-    if end < piece.len() {
-        return end + 1;
-    }
-    end
-}
-
 // Takes in a piece, line by line.
 fn take_piece(line: &mut [u8; 250], progress: Progress, piece: &[u8]) -> Progress {
     let mut further = progress;
     let mut at: usize = 0;
     while at < piece.len() {
-        let end = line_end(piece, at);
-        further = take_part(line, further, &piece[at..end]);
-        at = end;
+        let rest = &piece[at..];
+        let end = line_end(rest);
+        further = take_part(line, further, &rest[..end]);
+        at += end;
     }
     further
 }

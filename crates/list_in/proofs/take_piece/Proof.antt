@@ -1,6 +1,9 @@
 -- `list_in::take_piece` is safe and ends: it goes on by at least one byte each turn. Assumes nothing.
 use Prim.Native.Nat.{_-_, _≤_}
+use native.Mathlib.Omega.{arith}
 use lib.ListN.{length}
+use denote.Ref.{now}
+use Rattle.gathering.proofs.CutLaws.{next-end}
 use borrow.Author.Needs.{needs}
 use Rattle.list_in.proofs.take_piece.Statement.{statement}
 use Rattle.list_in.proofs.take_piece.Tie as tie
@@ -14,26 +17,34 @@ abbrev μ-loop : tie.MeasureT-loop
 loop-holds : tie.Need-loop-holds Inv-loop μ-loop
 loop-holds c = search needs
 
+sub-rest : tie.Need-sub-rest Inv-loop μ-loop
+sub-rest c = search needs
+
+part-rest-start : tie.Need-part-rest-start Inv-loop μ-loop
+part-rest-start c = search needs
+
+part-rest-end : tie.Need-part-rest-end Inv-loop μ-loop
+part-rest-end c = search needs
+
 line-end-requires : tie.Need-line-end-requires Inv-loop μ-loop
 line-end-requires c κs = search needs
 
-sub-take-part : tie.Need-sub-take-part Inv-loop μ-loop
-sub-take-part c = search needs
-
-part-take-part-start : tie.Need-part-take-part-start Inv-loop μ-loop
-part-take-part-start c = search needs
-
-part-take-part-end : tie.Need-part-take-part-end Inv-loop μ-loop
-part-take-part-end c = search needs
+slice-aggregate-take-part : tie.Need-slice-aggregate-take-part Inv-loop μ-loop
+slice-aggregate-take-part c =
+    let l = c .before .before .before .before .before in
+    next-end (now (l .before .before .args .piece)) (l .loop .at) _ (c .before .before .before .before .loop-test .taken) (c .before .before .line-end .ensures) .2
 
 take-part-requires : tie.Need-take-part-requires Inv-loop μ-loop
 take-part-requires c κs = search needs
 
+add-at : tie.Need-add-at Inv-loop μ-loop
+add-at c = let next = next-end (now (c .before .before .before .before .before .before .before .before .args .piece)) (c .before .before .before .before .before .before .loop .at) _ (c .before .before .before .before .before .loop-test .taken) (c .before .before .before .line-end .ensures) in let inside = next .1 in search needs
+
 loop-less : tie.Need-loop-less Inv-loop μ-loop
-loop-less c = search needs
+loop-less c = let next = next-end (now (c .before .before .before .before .before .before .before .before .args .piece)) (c .before .before .before .before .before .before .loop .at) _ (c .before .before .before .before .before .loop-test .taken) (c .before .before .before .line-end .ensures) in omega (arith, next .0, next .1)
 
 loop-again : tie.Need-loop-again Inv-loop μ-loop
-loop-again c = search needs
+loop-again c = next-end (now (c .before .before .before .before .before .before .before .before .args .piece)) (c .before .before .before .before .before .before .loop .at) _ (c .before .before .before .before .before .loop-test .taken) (c .before .before .before .line-end .ensures) .1
 
 returns : tie.Need-returns Inv-loop μ-loop
 returns c = search needs
@@ -45,11 +56,13 @@ take-piece-spec =
     Inv-loop
     μ-loop
     loop-holds
+    sub-rest
+    part-rest-start
+    part-rest-end
     line-end-requires
-    sub-take-part
-    part-take-part-start
-    part-take-part-end
+    slice-aggregate-take-part
     take-part-requires
+    add-at
     loop-less
     loop-again
     returns)

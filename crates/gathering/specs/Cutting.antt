@@ -1,0 +1,25 @@
+-- Document 02, wish 1: a text cut into lines. A line is what stands up to and with a line feed.
+use Prim.Native.Nat.{ℕ}
+use mathlib.Core.Bool.{cond}
+use mathlib.Core.List.{List, [], _∷_, _++_}
+use Rattle.columns.specs.Texts.{ended}
+use Rattle.lists.specs.Lines.{isFeed}
+
+-- The first line of a text, all of it where there is no line feed,
+unfoldable pub firstLine : List ℕ → List ℕ
+firstLine [] = []
+firstLine (c ∷ t) = cond (isFeed c) (c ∷ []) (c ∷ firstLine t)
+
+-- and what stands behind it.
+unfoldable pub laterLines : List ℕ → List ℕ
+laterLines [] = []
+laterLines (c ∷ t) = cond (isFeed c) t (laterLines t)
+
+-- The lines of a text that goes on a line begun by p. What stands behind the last line feed is a line too, where anything does.
+unfoldable pub linesFrom : List ℕ → List ℕ → List (List ℕ)
+linesFrom p [] = cond (ended p) [] (p ∷ [])
+linesFrom p (c ∷ t) = cond (isFeed c) ((p ++ (c ∷ [])) ∷ linesFrom [] t) (linesFrom (p ++ (c ∷ [])) t)
+
+-- The lines of a text.
+abbrev pub linesOf : List ℕ → List (List ℕ)
+linesOf t = linesFrom [] t
