@@ -2,3 +2,4 @@ pub mod Cutting
 pub mod Gathering
 pub mod Calls
 pub mod Promises
+pub mod Examples

@@ -9,8 +9,8 @@ use lists::outcomes::is_listed;
 use lists::outcomes::listed_code;
 use lists::outcomes::listed_number;
 
-// How far the list is read: what is kept of the line that is gathered, how many lines have ended, and how many of them were
-// written as records and refused.
+// How far the list is read: what is kept of the line that is gathered, how many lines have ended, how many of them were
+// written as records and refused, and whether more may come.
 struct Progress {
     gathered: Gathered,
     lines: u64,
@@ -47,9 +47,8 @@ fn refuse(progress: Progress, refusal: u8, code: u8) -> Progress {
     Progress {
         gathered: nothing(),
         lines,
-        records: progress.records,
         refused: next(progress.refused),
-        more: true,
+        ..progress
     }
 }
 
@@ -60,8 +59,7 @@ fn write(progress: Progress, record: &[u8]) -> Progress {
         gathered: nothing(),
         lines: next(progress.lines),
         records: next(progress.records),
-        refused: progress.refused,
-        more: true,
+        ..progress
     }
 }
 
@@ -85,10 +83,7 @@ fn take_part(line: &mut [u8; 250], progress: Progress, part: &[u8]) -> Progress 
     let gathered = gather(line, kept, part);
     let further = Progress {
         gathered,
-        lines: progress.lines,
-        records: progress.records,
-        refused: progress.refused,
-        more: true,
+        ..progress
     };
     if gathered.last == 10 {
         return end_line(line, further);
