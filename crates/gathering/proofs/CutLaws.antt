@@ -6,15 +6,17 @@ use mathlib.Core.List.{List, [], _∷_, _++_, append-assoc, append-nil}
 use Prim.Native.Nat.{ℕ, _+_, _-_, _≤_, _<_}
 use native.Mathlib.Omega.{arith}
 use lib.ListN.{length, take, drop, length-take, length-drop}
-use lib.Seq.{length-take-le, take-length, take-at, drop-at}
+use lib.Seq.{length-take-le, take-length, take-all, take-add, take-at, drop-at}
 use lib.Dec.{eqb}
-use borrow.Author.Tests.{ne-eqb}
+use borrow.Author.Tests.{eq-eqb, ne-eqb}
 use Rattle.bytes.specs.Bytes.{slice, indexOf, indexAfter}
 use Rattle.lists.specs.Lines.{isFeed}
 use Rattle.lists.proofs.LineLaws.{last-cons, last-append}
-use Rattle.gathering.specs.Cutting.{firstLine, laterLines, linesFrom}
-use Rattle.gathering.specs.Gathering.{lastByte, Holds}
+use Rattle.gathering.specs.Cutting.{lastByte, firstLine, laterLines, linesFrom, openLine, afterPart}
+use Rattle.gathering.specs.Gathering.{Holds, Follows}
+use Rattle.gathering.specs.Promises.{Begun, GoneOn}
 use Rattle.gathering.specs.declared.Gathered.{Gathered}
+use Rattle.gathering.proofs.HoldLaws.{holds-nothing, holds-on}
 
 -- ---- where a line ends
 
@@ -116,11 +118,75 @@ line-goes-on (c ∷ t) p u e₀ = by (isFeed c) refl (line-goes-on t (p ++ (c �
   by true e h = rw e (λ f. absurd (false≢true (sym f ∙ e)))
   by false e h = rw e (λ f. h (sym (goes-on c (firstLine t) e) ∙ f) ∙ ap (λ (l : List ℕ). linesFrom l u) (append-assoc p (c ∷ []) t))
 
--- What is kept of a line tells whether it has ended,
-pub end-seen : (buffer : List ℕ) (g : Gathered) (p t : List ℕ) → 1 ≤ length t → Holds buffer g (p ++ firstLine t) → isFeed (g .last) ≡ isFeed (lastByte (firstLine t))
-end-seen buffer g p t n h = ap (λ (x : Gathered). isFeed (x .last)) (h .2) ∙ ap isFeed (last-append p (firstLine t) (end-further t n))
+-- The line that a text leaves open is left open by its end,
+open-append : (t p u : List ℕ) → openLine p (t ++ u) ≡ openLine (openLine p t) u
+unfolding openLine
+open-append [] p u = refl
+open-append (c ∷ t) p u = by (isFeed c) refl (open-append t [] u) (open-append t (p ++ (c ∷ [])) u) where
+  by : (b : Bool) → isFeed c ≡ b → openLine [] (t ++ u) ≡ openLine (openLine [] t) u → openLine (p ++ (c ∷ [])) (t ++ u) ≡ openLine (openLine (p ++ (c ∷ [])) t) u
+      → openLine p (c ∷ (t ++ u)) ≡ openLine (openLine p (c ∷ t)) u
+  by true e f g = rw e f
+  by false e f g = rw e g
 
--- and, where nothing more comes in, whether it has begun.
+open-on : (c : ℕ) (p q : List ℕ) → isFeed c ≡ false → openLine p (c ∷ q) ≡ openLine (p ++ (c ∷ [])) q
+unfolding openLine
+open-on c p q e = rw e
+
+-- and one line of it ends what was begun, or goes on it.
+open-first : (t p : List ℕ) → openLine p (firstLine t) ≡ afterPart p (firstLine t)
+unfolding openLine firstLine
+open-first [] p = sym (append-nil p)
+open-first (c ∷ t) p = by (isFeed c) refl (open-first t (p ++ (c ∷ []))) where
+  by : (b : Bool) → isFeed c ≡ b → openLine (p ++ (c ∷ [])) (firstLine t) ≡ afterPart (p ++ (c ∷ [])) (firstLine t) → openLine p (firstLine (c ∷ t)) ≡ afterPart p (firstLine (c ∷ t))
+  by true e f = rw e
+  by false e f = rw (e, goes-on c (firstLine t) e) (open-on c p (firstLine t) e ∙ f ∙ ap (λ (l : List ℕ). cond (isFeed (lastByte (firstLine t))) [] l) (append-assoc p (c ∷ []) (firstLine t)))
+
+-- So it is with each line of a piece.
+pub open-next : (piece p : List ℕ) (at n : ℕ) → at < length piece → n ≡ length (firstLine (take (length piece - at) (drop at piece)))
+    → openLine p (take (at + n) piece) ≡ afterPart (openLine p (take at piece)) (take n (take (length piece - at) (drop at piece)))
+open-next piece p at n h e =
+    let rest = drop at piece in
+    let all : take (length piece - at) rest ≡ rest = take-all (length piece - at) rest (omega (arith, length-drop at piece)) in
+    let here : n ≡ length (firstLine rest) = e ∙ ap (λ (l : List ℕ). length (firstLine l)) all in
+    let first : take n rest ≡ firstLine rest = ap (λ (k : ℕ). take k rest) here ∙ cut-here rest .0 in
+    rw (take-add at n piece, all, first, open-append (take at piece) p (firstLine rest)) (open-first rest (openLine p (take at piece)))
+
+-- What is kept of a line after a part tells whether it has ended: the next one begins,
+module _ (before after : List ℕ) (g answer : Gathered) (part : List ℕ) (s : GoneOn before g part answer after) (n : 1 ≤ length part) where
+  last-kept : (p : List ℕ) → Holds before g p → answer .last ≡ lastByte part
+  last-kept p h = ap (λ (x : Gathered). x .last) (holds-on before after g answer p part h s .2) ∙ last-append p part n
+
+  pub part-ends : answer .last ≡ 10 → (begun : Gathered) → Begun begun → Follows before g after begun (λ p. afterPart p part)
+  part-ends e begun b = λ p h.
+      let feed : isFeed (lastByte part) ≡ true = eq-eqb (lastByte part) 10 (sym (last-kept p h) ∙ e) in
+      rw feed (holds-nothing after begun (holds-on before after g answer p part h s .0) b)
+
+  -- or it goes on.
+  pub part-goes-on : (answer .last ≡ 10 → ⊥) → Follows before g after answer (λ p. afterPart p part)
+  part-goes-on f = λ p h.
+      let none : isFeed (lastByte part) ≡ false = ne-eqb (lastByte part) 10 (λ e. f (last-kept p h ∙ e)) in
+      rw none (holds-on before after g answer p part h s)
+
+-- So a piece is taken in line by line: what is held is the line that it leaves open as far as it was taken in,
+module _ (before : List ℕ) (first : Gathered) (b : List ℕ) (g : Gathered) (piece : List ℕ) (at : ℕ) (f : Follows before first b g (λ p. openLine p (take at piece))) where
+  pub piece-goes-on : (b' : List ℕ) (g' : Gathered) (n : ℕ) → at < length piece → n ≡ length (firstLine (take (length piece - at) (drop at piece)))
+      → (1 ≤ length (take n (take (length piece - at) (drop at piece))) → Follows b g b' g' (λ p. afterPart p (take n (take (length piece - at) (drop at piece)))))
+      → Follows before first b' g' (λ p. openLine p (take (at + n) piece))
+  piece-goes-on b' g' n h e s =
+      let next = next-end piece at n h e in
+      let some : 1 ≤ length (take n (take (length piece - at) (drop at piece))) = rw (← next .2) (next .0) in
+      λ p held. rw (open-next piece p at n h e) (s some (openLine p (take at piece)) (f p held))
+
+  -- and at its end that of all of it.
+  pub piece-ends : length piece ≤ at → Follows before first b g (λ p. openLine p piece)
+  piece-ends h = λ p held. rw (← take-all at piece h) (f p held)
+
+-- At the beginning it is what it was.
+pub piece-begins : (b : List ℕ) (g : Gathered) (piece : List ℕ) → Follows b g b g (λ p. openLine p (take 0 piece))
+unfolding openLine
+piece-begins b g piece = λ p held. held
+
+-- Where nothing more comes in, it tells whether a line was begun.
 pub list-ends : (buffer : List ℕ) (g : Gathered) (p : List ℕ) → Holds buffer g p → linesFrom p [] ≡ cond (eqb (g .held) 0) [] (p ∷ [])
 unfolding linesFrom
 list-ends buffer g [] h = rw (h .2)

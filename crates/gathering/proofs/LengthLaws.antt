@@ -15,7 +15,7 @@ use Rattle.lists.specs.Fields.{noneLonger}
 use Rattle.lists.specs.Lines.{isSemicolon, isFeed, isMark, before, behind, split, lineFields, isLine}
 use Rattle.lists.proofs.LineLaws.{last-cons}
 use Rattle.lists.proofs.Reading.{columnsOf}
-use Rattle.gathering.specs.Gathering.{lastByte}
+use Rattle.gathering.specs.Cutting.{lastByte}
 use Rattle.gathering.specs.Calls.{longestLine}
 
 -- What a text has to do with its first field and the rest behind the mark: it is no longer than both and the mark, and the rest

@@ -8,6 +8,11 @@ use gathering::records::file_gathered;
 use lists::outcomes::is_listed;
 use lists::outcomes::listed_code;
 use lists::outcomes::listed_number;
+ghost use Prim.Native.Nat.{_≤_};
+ghost use lib.ListN.{length};
+ghost use Rattle.gathering.specs.Cutting.{openLine, afterPart};
+ghost use Rattle.gathering.specs.Gathering.{Follows};
+ghost use Rattle.gathering.specs.Promises.{Begun};
 
 // How far the list is read: what is kept of the line that is gathered, how many lines have ended, how many of them were
 // written as records and refused, and whether more may come.
@@ -41,7 +46,9 @@ fn name(line: u64, refusal: u8, code: u8) {
 }
 
 // A line is refused, and the next one begins.
-fn refuse(progress: Progress, refusal: u8, code: u8) -> Progress {
+fn refuse(progress: Progress, refusal: u8, code: u8) -> Progress
+    ensures { λ r. ⌜ Begun (r .gathered) ⌝ }
+{
     let lines = next(progress.lines);
     name(lines, refusal, code);
     Progress {
@@ -53,7 +60,9 @@ fn refuse(progress: Progress, refusal: u8, code: u8) -> Progress {
 }
 
 // A line is written as its record, and the next one begins.
-fn write(progress: Progress, record: &[u8]) -> Progress {
+fn write(progress: Progress, record: &[u8]) -> Progress
+    ensures { λ r. ⌜ Begun (r .gathered) ⌝ }
+{
     io::write_all(1, record);
     Progress {
         gathered: nothing(),
@@ -64,7 +73,9 @@ fn write(progress: Progress, record: &[u8]) -> Progress {
 }
 
 // The end of a line: it is written or refused. A filing has room for 250 records.
-fn end_line(line: &[u8; 250], progress: Progress) -> Progress {
+fn end_line(line: &[u8; 250], progress: Progress) -> Progress
+    ensures { λ r. ⌜ Begun (r .gathered) ⌝ }
+{
     let mut record = [b' '; 219];
     let gathered = progress.gathered;
     let outcome = file_gathered(line, gathered, &mut record);
@@ -77,8 +88,10 @@ fn end_line(line: &[u8; 250], progress: Progress) -> Progress {
     write(progress, &record)
 }
 
-// The next part of a line, up to its line feed or the end of what was read.
-fn take_part(line: &mut [u8; 250], progress: Progress, part: &[u8]) -> Progress {
+// The next part of a line, up to its line feed or the end of what was read: with its line feed the line ends.
+fn take_part(line: &mut [u8; 250], progress: Progress, part: &[u8]) -> Progress
+    ensures { λ r. ⌜ (1 ≤ length (now (part .entry)) → Follows (now (line .entry)) (progress .gathered) (now (line .exit)) (r .gathered) (λ p. afterPart p (now (part .entry)))) ⌝ }
+{
     let kept = progress.gathered;
     let gathered = gather(line, kept, part);
     let further = Progress {
@@ -91,8 +104,10 @@ fn take_part(line: &mut [u8; 250], progress: Progress, part: &[u8]) -> Progress 
     further
 }
 
-// Takes in a piece, line by line.
-fn take_piece(line: &mut [u8; 250], progress: Progress, piece: &[u8]) -> Progress {
+// Takes in a piece, line by line; what is held then is the line that it leaves open.
+fn take_piece(line: &mut [u8; 250], progress: Progress, piece: &[u8]) -> Progress
+    ensures { λ r. ⌜ Follows (now (line .entry)) (progress .gathered) (now (line .exit)) (r .gathered) (λ p. openLine p (now (piece .entry))) ⌝ }
+{
     let mut further = progress;
     let mut at: usize = 0;
     while at < piece.len() {
