@@ -1,7 +1,7 @@
 -- A gathered line is filed, or refused, as the whole line is.
 -- Assumes nothing.
 use mathlib.Core.Path.{_≡_, refl, sym, ap, _∙_}
-use mathlib.Core.Bool.{Bool, true, false, cond, _&&_}
+use mathlib.Core.Bool.{Bool, true, false, cond}
 use mathlib.Core.List.{List, []}
 use Prim.Native.Nat.{ℕ, _≤_, _<_, min}
 use native.Mathlib.Omega.{arith}
@@ -19,7 +19,7 @@ use Rattle.lists.specs.Calls.{lineOutcome, lineFiling, filedLine}
 use Rattle.lists.specs.Promises.{LineFiled}
 use Rattle.lists.specs.declared.Listed.{Listed}
 use Rattle.lists.specs.declared.Listed.the-variants as listed
-use Rattle.gathering.specs.Gathering.{room, lastByte, keptOf, Holds, keptThrough, heldThrough}
+use Rattle.gathering.specs.Gathering.{room, keptOf, Holds, keptThrough, heldThrough}
 use Rattle.gathering.specs.Calls.{longestLine, longOutcome, gatheredFiling, filedGathered}
 use Rattle.gathering.specs.Promises.{GatheredFiled}
 use Rattle.gathering.specs.declared.Gathered.{Gathered}

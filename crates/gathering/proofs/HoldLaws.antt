@@ -9,9 +9,9 @@ use lib.ListN.{length, length-append}
 use borrow.Author.Tests.{ne-eqb}
 use Rattle.columns.specs.Texts.{howMany}
 use Rattle.filing.specs.Fields.{joined}
-use Rattle.lists.specs.Lines.{isSemicolon, isFeed}
+use Rattle.lists.specs.Lines.{isSemicolon, isFeed, lastByte}
 use Rattle.lists.proofs.LineLaws.{last-append}
-use Rattle.gathering.specs.Gathering.{room, lastByte, keptOf, Holds, lastAfter, keptWith, holding, keptThrough, heldThrough}
+use Rattle.gathering.specs.Gathering.{room, keptOf, Holds, lastAfter, keptWith, holding, keptThrough, heldThrough}
 use Rattle.gathering.specs.Promises.{Begun, GoneOn}
 use Rattle.gathering.specs.declared.Gathered.{Gathered}
 use Rattle.gathering.proofs.PartLaws.{held-on, holding-length}

@@ -3,7 +3,7 @@
 use mathlib.Core.Path.{_≡_, refl, sym, _∙_}
 use mathlib.Core.Bool.{Bool, true, false, cond, _||_}
 use mathlib.Core.List.{List, [], _∷_}
-use Prim.Native.Nat.{ℕ, zero, suc, _+_, _-_, _≤_}
+use Prim.Native.Nat.{ℕ, _+_, _-_, _≤_}
 use native.Mathlib.Omega.{arith}
 use lib.Dec.{leb, eqb}
 use lib.ListN.{length}
@@ -12,10 +12,9 @@ use Rattle.columns.specs.Texts.{howMany}
 use Rattle.columns.proofs.TextLaws.{and-split}
 use Rattle.station.specs.Places.{stationPlaces}
 use Rattle.lists.specs.Fields.{noneLonger}
-use Rattle.lists.specs.Lines.{isSemicolon, isFeed, isMark, before, behind, split, lineFields, isLine}
+use Rattle.lists.specs.Lines.{isSemicolon, isFeed, isMark, before, behind, split, lineFields, isLine, lastByte}
 use Rattle.lists.proofs.LineLaws.{last-cons}
 use Rattle.lists.proofs.Reading.{columnsOf}
-use Rattle.gathering.specs.Gathering.{lastByte}
 use Rattle.gathering.specs.Calls.{longestLine}
 
 -- What a text has to do with its first field and the rest behind the mark: it is no longer than both and the mark, and the rest

@@ -1,3 +1,4 @@
+pub mod CutLaws
 pub mod LengthLaws
 pub mod PartLaws
 pub mod HoldLaws

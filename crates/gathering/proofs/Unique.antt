@@ -4,8 +4,12 @@ use mathlib.Core.Path.{_≡_, sym, _∙_}
 use mathlib.Core.List.{List}
 use Prim.Native.Nat.{ℕ}
 use Rattle.lists.specs.declared.Listed.{Listed}
-use Rattle.gathering.specs.Promises.{Begun, GoneOn, GatheredFiled}
+use Rattle.gathering.specs.Promises.{LineEnded, Begun, GoneOn, GatheredFiled}
 use Rattle.gathering.specs.declared.Gathered.{Gathered}
+
+-- Two answers of `line_end` to one text are equal.
+pub one-line-ended : (t : List ℕ) (a b : ℕ) → LineEnded t a → LineEnded t b → a ≡ b
+one-line-ended t a b p q = p ∙ sym q
 
 -- Two answers of `nothing` are equal.
 pub one-begun : (a b : Gathered) → Begun a → Begun b → a ≡ b

@@ -3,19 +3,15 @@ use Prim.Native.Nat.{ℕ, _+_, _-_, min}
 use mathlib.Core.Path.{_≡_}
 use mathlib.Core.Bool.{cond}
 use mathlib.Core.List.{List, [], _∷_, _++_}
-use lib.ListN.{length, getD, take, drop}
+use lib.ListN.{length, take, drop}
 use lib.Dec.{eqb}
 use Rattle.columns.specs.Texts.{howMany}
-use Rattle.lists.specs.Lines.{isSemicolon, isFeed}
+use Rattle.lists.specs.Lines.{isSemicolon, isFeed, lastByte}
 use Rattle.gathering.specs.declared.Gathered.{Gathered}
 
 -- A lent buffer of 250 bytes has room for the longest line of a station, 249 bytes, and one byte more.
 abbrev pub room : ℕ
 room = 250
-
--- The last byte of a text, 0 where it has none.
-abbrev pub lastByte : List ℕ → ℕ
-lastByte t = getD t (length t - 1) 0
 
 -- What is kept of a text: a line has 29 semicolons and one line feed, so that one more of each is counted and no further.
 abbrev pub keptOf : List ℕ → Gathered
@@ -30,6 +26,10 @@ keptOf t =
 -- A buffer and what is kept beside it hold a text: its first bytes stand in the buffer, as many as there is room for.
 abbrev pub Holds : List ℕ → Gathered → List ℕ → Type 0
 Holds buffer g t = (length buffer ≡ room) × (take (length t) buffer ≡ take room t) × (g ≡ keptOf t)
+
+-- What was held goes over into what is held now: where it was p, it is `next p`.
+abbrev pub Follows : List ℕ → Gathered → List ℕ → Gathered → (List ℕ → List ℕ) → Type 0
+Follows before g after answer next = (p : List ℕ) → Holds before g p → Holds after answer (next p)
 
 -- The last byte after a part; one without bytes changes nothing.
 unfoldable pub lastAfter : ℕ → List ℕ → ℕ

@@ -2,10 +2,16 @@
 use Prim.Native.Nat.{ℕ}
 use mathlib.Core.Path.{_≡_}
 use mathlib.Core.List.{List, []}
+use lib.ListN.{length}
 use Rattle.lists.specs.declared.Listed.{Listed}
+use Rattle.gathering.specs.Cutting.{firstLine}
 use Rattle.gathering.specs.Gathering.{keptOf, keptWith, holding}
 use Rattle.gathering.specs.Calls.{gatheredFiling, filedGathered}
 use Rattle.gathering.specs.declared.Gathered.{Gathered}
+
+-- `line_end` of a text: how many bytes its first line has.
+abbrev pub LineEnded : List ℕ → ℕ → Type 0
+LineEnded t answer = answer ≡ length (firstLine t)
 
 -- `nothing`: what is kept of a line before its first byte.
 abbrev pub Begun : Gathered → Type 0

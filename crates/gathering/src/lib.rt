@@ -1,6 +1,7 @@
 // A line of any length, gathered part by part: its first bytes are held in a lent buffer, and beside them is kept what tells
 // how a line that is longer than the buffer must be refused.
 
+pub mod cutting;
 pub mod lines;
 pub mod records;
 mod sums;

@@ -4,9 +4,8 @@ use crate::sums::sum_to;
 use columns::texts::byte;
 use lists::marks::count;
 ghost use mathlib.Core.Path.{_≡_};
-ghost use mathlib.Core.List.{_++_};
-ghost use Prim.Native.Nat.{_+_, _-_, min};
-ghost use lib.ListN.{length, take, drop};
+ghost use Prim.Native.Nat.{_+_, min};
+ghost use lib.ListN.{length};
 ghost use Rattle.gathering.specs.Gathering.{lastAfter, holding};
 ghost use Rattle.gathering.specs.Promises.{Begun, GoneOn};
 

@@ -10,7 +10,7 @@ use native.Mathlib.Numerals.{sub-one}
 use lib.ListN.{length, getD, length-append}
 use Rattle.columns.specs.Texts.{every, howMany}
 use Rattle.columns.proofs.TextLaws.{and-split}
-use Rattle.lists.specs.Lines.{isSemicolon, isFeed, isMark, joinedLine, before, behind, split}
+use Rattle.lists.specs.Lines.{isSemicolon, isFeed, isMark, joinedLine, before, behind, split, lastByte}
 
 -- A byte that may stand in a field: no mark.
 abbrev pub plain : ℕ → Bool
@@ -81,10 +81,6 @@ pub one-feed : (p : List ℕ) (ps : List (List ℕ)) → AllPlain (p ∷ ps) →
 unfolding howMany
 one-feed p [] h = no-feed p (10 ∷ []) (h .0)
 one-feed p (q ∷ ps) h = no-feed p (59 ∷ joinedLine (q ∷ ps)) (h .0) ∙ zero-add (howMany isFeed (joinedLine (q ∷ ps))) ∙ one-feed q ps (h .1)
-
--- and it is the last byte.
-abbrev pub lastByte : List ℕ → ℕ
-lastByte t = getD t (length t - 1) 0
 
 pub last-cons : (x : ℕ) (t : List ℕ) → 1 ≤ length t → lastByte (x ∷ t) ≡ lastByte t
 last-cons x [] h = absurd (omega arith)

@@ -24,11 +24,11 @@ use Rattle.station.specs.Codes.{typedCode}
 use Rattle.station.specs.declared.Station.{Station}
 use Rattle.station.proofs.RoundTrip.{write-keeps, read-back}
 use Rattle.lists.specs.Fields.{stationSides, trimmedFields, noneLonger}
-use Rattle.lists.specs.Lines.{isSemicolon, isFeed, joinedLine, lineOf, lineFields, isLine, recordOf}
+use Rattle.lists.specs.Lines.{isSemicolon, isFeed, joinedLine, lineOf, lineFields, lastByte, isLine, recordOf}
 use Rattle.lists.specs.Outcomes.{listedRefusal, ifListed, unbroken}
 use Rattle.lists.specs.Calls.{lineOutcome, stationInLine, writeLineOutcome, lineLength, writtenLine}
 use Rattle.lists.specs.declared.Listed.the-variants as listed
-use Rattle.lists.proofs.LineLaws.{AllPlain, lastByte, split-joined, semicolons, one-feed, feed-last}
+use Rattle.lists.proofs.LineLaws.{AllPlain, split-joined, semicolons, one-feed, feed-last}
 use Rattle.lists.proofs.PieceLaws.{Pieces, pieces-wide, pieces-plain, pieces-short, pieces-back}
 use Rattle.lists.proofs.FieldPieces.{byte-piece, amount-piece, unit-piece, tenths-piece, radius-piece, ground-piece, height-piece, day-piece, position-piece}
 use Rattle.lists.proofs.TextPieces.{class-piece, service-piece, polarisation-piece, users-piece, name-piece, antenna-piece, reference-piece, country-piece, emission-piece, remarks-piece}

@@ -12,10 +12,10 @@ use Rattle.columns.specs.Texts.{howMany}
 use Rattle.station.specs.Codes.{typedCode}
 use Rattle.station.specs.Spelling.{spellStation}
 use Rattle.station.specs.declared.Station.{Station}
-use Rattle.lists.specs.Lines.{isFeed, lineOf}
+use Rattle.lists.specs.Lines.{isFeed, lineOf, lastByte}
 use Rattle.lists.specs.Outcomes.{listedRefusal, ifListed}
 use Rattle.lists.specs.Whole.{linesFrom, linesOf, broughtIn, recordsOf}
-use Rattle.lists.proofs.LineLaws.{lastByte, last-cons}
+use Rattle.lists.proofs.LineLaws.{last-cons}
 use Rattle.lists.proofs.RoundTrip.{line-done, line-back}
 
 -- a line feed that is last is the last of what stands behind the first byte

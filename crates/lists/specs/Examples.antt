@@ -1,10 +1,11 @@
 -- Small fields and lines, computed.
 use mathlib.Core.Path.{_≡_, refl}
 use mathlib.Core.Bool.{false}
-use mathlib.Core.List.{[], _∷_}
+use mathlib.Core.List.{[], _∷_, _++_}
 use Rattle.columns.specs.Texts.{bytes, skip, trimmed, howMany}
 use Rattle.lists.specs.Fields.{trimmedField, paddedField}
 use Rattle.lists.specs.Lines.{joinedLine, before, behind, split, isLine}
+use Rattle.lists.specs.Whole.{linesFrom, linesOf}
 use Rattle.lists.specs.declared.Side.the-variants as side
 
 -- 8B1 goes out without the space of its sign column,
@@ -54,3 +55,23 @@ short-split = refl
 short-refused : isLine (70 ∷ 66 ∷ 59 ∷ 59 ∷ 55 ∷ 10 ∷ []) ≡ false
 unfolding isLine howMany
 short-refused = refl
+
+-- A list of two lines is cut into them,
+two-lines : linesOf (bytes "FB" ++ (10 ∷ (bytes "ML" ++ (10 ∷ [])))) ≡ (70 ∷ 66 ∷ 10 ∷ []) ∷ (77 ∷ 76 ∷ 10 ∷ []) ∷ []
+unfolding linesFrom
+two-lines = refl
+
+-- the second one may lack its line feed,
+cut-off : linesOf (bytes "FB" ++ (10 ∷ bytes "ML")) ≡ (70 ∷ 66 ∷ 10 ∷ []) ∷ (77 ∷ 76 ∷ []) ∷ []
+unfolding linesFrom
+cut-off = refl
+
+-- an empty line is one,
+empty-line : linesOf (10 ∷ []) ≡ (10 ∷ []) ∷ []
+unfolding linesFrom
+empty-line = refl
+
+-- and nothing is none.
+no-line : linesOf [] ≡ []
+unfolding linesFrom
+no-line = refl

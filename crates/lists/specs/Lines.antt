@@ -53,9 +53,13 @@ split (suc k) t = before t ∷ split k (behind t)
 unfoldable pub lineFields : List ℕ → List (List ℕ)
 lineFields t = split 30 t
 
+-- The last byte of a text, 0 where it has none.
+abbrev pub lastByte : List ℕ → ℕ
+lastByte t = getD t (length t - 1) 0
+
 -- A line has twenty-nine semicolons and one line feed, the last byte.
 unfoldable pub isLine : List ℕ → Bool
-isLine t = eqb (howMany isSemicolon t) 29 && (eqb (howMany isFeed t) 1 && isFeed (getD t (length t - 1) 0))
+isLine t = eqb (howMany isSemicolon t) 29 && (eqb (howMany isFeed t) 1 && isFeed (lastByte t))
 
 -- The record that a line says: its fields, each padded to its columns.
 unfoldable pub recordOf : List ℕ → List ℕ

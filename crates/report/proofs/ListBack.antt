@@ -16,9 +16,10 @@ use Rattle.files.specs.Files.{stations, recordAt}
 use Rattle.files.proofs.FileLaws.{record-wide}
 use Rattle.files.proofs.LengthLaws.{done, whole-records}
 use Rattle.sheet.specs.Counting.{rows}
+use Rattle.lists.specs.Lines.{lastByte}
 use Rattle.lists.specs.Outcomes.{listedRefusal, ifListed}
 use Rattle.lists.specs.Whole.{linesFrom, linesOf, broughtIn, recordsOf}
-use Rattle.lists.proofs.LineLaws.{lastByte, last-append}
+use Rattle.lists.proofs.LineLaws.{last-append}
 use Rattle.lists.proofs.WholeLaws.{lines-append, one-of-lines, records-append, brought-back}
 use Rattle.report.specs.Lines.{brokenLine}
 use Rattle.report.specs.Reports.{lengthOutcome}

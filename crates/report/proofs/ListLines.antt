@@ -21,10 +21,10 @@ use Rattle.files.specs.Files.{stations, recordAt}
 use Rattle.files.proofs.FileLaws.{record-wide}
 use Rattle.files.proofs.LengthLaws.{done, whole-records}
 use Rattle.sheet.specs.Counting.{rows}
-use Rattle.lists.specs.Lines.{isSemicolon, isFeed, isLine, joinedLine, lineOf}
+use Rattle.lists.specs.Lines.{isSemicolon, isFeed, lastByte, isLine, joinedLine, lineOf}
 use Rattle.lists.specs.Calls.{lineOutcome}
 use Rattle.lists.specs.declared.Listed.the-variants as listed
-use Rattle.lists.proofs.LineLaws.{plain, lastByte, semicolons, one-feed, feed-last}
+use Rattle.lists.proofs.LineLaws.{plain, semicolons, one-feed, feed-last}
 use Rattle.lists.proofs.PieceLaws.{every-more, every-append, solid, solid-plain, solid-digits}
 use Rattle.lists.proofs.RoundTrip.{line-is}
 use Rattle.report.specs.Lines.{places, decimal, labelled, brokenLine}
