@@ -17,11 +17,13 @@ fn report_space() -> [u8; 8192]
     [0; 8192]
 }
 
-// Reads at most 54,970 bytes of the file, and writes all of its report.
+// Reads at most 54,970 bytes of the file, and writes all of its report, or says that it could not.
 fn main() {
     let mut file = file_space();
     let n = io::read_full(0, &mut file);
     let mut lines = report_space();
     let end = write_report(&file[..n], &mut lines);
-    io::write_all(1, &lines[..end]);
+    if !io::write_all(1, &lines[..end]) {
+        io::write_all(2, b"not written\n");
+    }
 }

@@ -13,17 +13,17 @@ use Rattle.columns.specs.Texts.{howMany, sized}
 use Rattle.filing.specs.Fields.{recordLength, joined}
 use Rattle.station.specs.Places.{stationPlaces}
 use Rattle.lists.specs.Fields.{noneLonger}
-use Rattle.lists.specs.Lines.{isSemicolon, isFeed, lineFields, isLine}
+use Rattle.lists.specs.Lines.{isSemicolon, isFeed, lineFields, isLine, longestLine}
 use Rattle.lists.specs.Outcomes.{listedRefusal, ifListed}
 use Rattle.lists.specs.Calls.{lineOutcome, lineFiling, filedLine}
 use Rattle.lists.specs.Promises.{LineFiled}
 use Rattle.lists.specs.declared.Listed.{Listed}
 use Rattle.lists.specs.declared.Listed.the-variants as listed
 use Rattle.gathering.specs.Gathering.{room, keptOf, Holds, keptThrough, heldThrough}
-use Rattle.gathering.specs.Calls.{longestLine, longOutcome, gatheredFiling, filedGathered}
+use Rattle.gathering.specs.Calls.{longOutcome, gatheredFiling, filedGathered}
 use Rattle.gathering.specs.Promises.{GatheredFiled}
 use Rattle.gathering.specs.declared.Gathered.{Gathered}
-use Rattle.gathering.proofs.LengthLaws.{line-length}
+use Rattle.lists.proofs.SizeLaws.{line-length}
 use Rattle.gathering.proofs.HoldLaws.{holds-all}
 
 -- ---- how the call ends

@@ -6,15 +6,11 @@ use lib.ListN.{take}
 use lib.Dec.{leb, eqb}
 use Rattle.columns.specs.Texts.{sized}
 use Rattle.filing.specs.Fields.{recordLength}
-use Rattle.lists.specs.Lines.{isFeed}
+use Rattle.lists.specs.Lines.{isFeed, longestLine}
 use Rattle.lists.specs.Calls.{lineFiling, filedLine}
 use Rattle.lists.specs.declared.Listed.{Listed}
 use Rattle.lists.specs.declared.Listed.the-variants as listed
 use Rattle.gathering.specs.declared.Gathered.{Gathered}
-
--- The longest line of a station: 219 columns, 29 semicolons and the line feed.
-abbrev pub longestLine : ℕ
-longestLine = 249
 
 -- A longer one with its marks has a field that is too long for its columns, 11; any other is not a line, 10.
 unfoldable pub longOutcome : Gathered → Listed

@@ -59,15 +59,31 @@ fn refuse(progress: Progress, refusal: u8, code: u8) -> Progress
     }
 }
 
-// A line is written as its record, and the next one begins.
+// Names a line whose record cannot be written, as on a disk that is full.
+fn name_lost(line: u64) {
+    io::write_all(2, b"line ");
+    io::print_decimal(2, line);
+    io::write_all(2, b" not written\n");
+}
+
+// A line is written as its record, and counts as refused where that fails; the next one begins.
 fn write(progress: Progress, record: &[u8]) -> Progress
     ensures { λ r. ⌜ Begun (r .gathered) ⌝ }
 {
-    io::write_all(1, record);
+    let lines = next(progress.lines);
+    if io::write_all(1, record) {
+        return Progress {
+            gathered: nothing(),
+            lines,
+            records: next(progress.records),
+            ..progress
+        };
+    }
+    name_lost(lines);
     Progress {
         gathered: nothing(),
-        lines: next(progress.lines),
-        records: next(progress.records),
+        lines,
+        refused: next(progress.refused),
         ..progress
     }
 }

@@ -17,11 +17,13 @@ fn list_space() -> [u8; 62250]
     [0; 62250]
 }
 
-// Reads at most 54,970 bytes of the file, and writes all of its list.
+// Reads at most 54,970 bytes of the file, and writes all of its list, or says that it could not.
 fn main() {
     let mut file = file_space();
     let n = io::read_full(0, &mut file);
     let mut lines = list_space();
     let end = write_list(&file[..n], &mut lines);
-    io::write_all(1, &lines[..end]);
+    if !io::write_all(1, &lines[..end]) {
+        io::write_all(2, b"not written\n");
+    }
 }

@@ -3,11 +3,11 @@
 use mathlib.Core.Path.{_≡_, refl, ap, _∙_}
 use mathlib.Core.Bool.{Bool, true, false, not, _||_, false≢true}
 use mathlib.Core.List.{List, [], _∷_, _++_}
-use Prim.Native.Nat.{ℕ, suc, _-_, _≤_}
+use Prim.Native.Nat.{ℕ, suc, _≤_}
 use native.Mathlib.Omega.{arith}
 use native.Mathlib.Nat.{zero-add}
 use native.Mathlib.Numerals.{sub-one}
-use lib.ListN.{length, getD, length-append}
+use lib.ListN.{length, length-append}
 use Rattle.columns.specs.Texts.{every, howMany}
 use Rattle.columns.proofs.TextLaws.{and-split}
 use Rattle.lists.specs.Lines.{isSemicolon, isFeed, isMark, joinedLine, before, behind, split, lastByte}
@@ -82,18 +82,22 @@ unfolding howMany
 one-feed p [] h = no-feed p (10 ∷ []) (h .0)
 one-feed p (q ∷ ps) h = no-feed p (59 ∷ joinedLine (q ∷ ps)) (h .0) ∙ zero-add (howMany isFeed (joinedLine (q ∷ ps))) ∙ one-feed q ps (h .1)
 
+-- The last byte of a text is that of its rest,
 pub last-cons : (x : ℕ) (t : List ℕ) → 1 ≤ length t → lastByte (x ∷ t) ≡ lastByte t
 last-cons x [] h = absurd (omega arith)
 last-cons x (y ∷ t) h = rw (sub-one (suc (suc (length t))), sub-one (suc (length t)))
 
+-- and of two texts that of the second.
 pub last-append : (p t : List ℕ) → 1 ≤ length t → lastByte (p ++ t) ≡ lastByte t
 last-append [] t h = refl
 last-append (x ∷ p) t h = last-cons x (p ++ t) (omega (arith, length-append p t)) ∙ last-append p t h
 
+-- fields make a line of some bytes,
 some-bytes : (p : List ℕ) (ps : List (List ℕ)) → 1 ≤ length (joinedLine (p ∷ ps))
 some-bytes p [] = omega (arith, length-append p (10 ∷ []))
 some-bytes p (q ∷ ps) = omega (arith, length-append p (59 ∷ joinedLine (q ∷ ps)))
 
+-- and a line feed is the last of them.
 pub feed-last : (p : List ℕ) (ps : List (List ℕ)) → lastByte (joinedLine (p ∷ ps)) ≡ 10
 feed-last p [] = last-append p (10 ∷ []) (omega arith)
 feed-last p (q ∷ ps) =

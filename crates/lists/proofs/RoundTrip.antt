@@ -172,6 +172,10 @@ values-hold s e = all-front (typedRules s) (betweenRules s) (all-hold 0 (typedRu
 pub line-is : (s : Station) → typedCode s ≡ 0 → isLine (lineOf s) ≡ true
 line-is s e = line-marks s (values-hold s e)
 
+-- None of its fields is longer than its columns.
+pub fields-fit : (s : Station) → typedCode s ≡ 0 → noneLonger stationPlaces (lineFields (lineOf s)) ≡ true
+fields-fit s e = line-short s (values-hold s e)
+
 -- The record that a station's line says is the station's record,
 pub line-record : (s : Station) → typedCode s ≡ 0 → recordOf (lineOf s) ≡ spellStation s
 line-record s e = record-found s (values-hold s e)

@@ -61,6 +61,10 @@ lastByte t = getD t (length t - 1) 0
 unfoldable pub isLine : List ℕ → Bool
 isLine t = eqb (howMany isSemicolon t) 29 && (eqb (howMany isFeed t) 1 && isFeed (lastByte t))
 
+-- The longest one whose fields are no longer than their columns: 219 columns, 29 semicolons and the line feed.
+abbrev pub longestLine : ℕ
+longestLine = 249
+
 -- The record that a line says: its fields, each padded to its columns.
 unfoldable pub recordOf : List ℕ → List ℕ
 recordOf t = joined (paddedFields stationSides stationPlaces (lineFields t))
