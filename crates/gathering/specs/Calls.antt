@@ -12,7 +12,7 @@ use Rattle.lists.specs.declared.Listed.{Listed}
 use Rattle.lists.specs.declared.Listed.the-variants as listed
 use Rattle.gathering.specs.declared.Gathered.{Gathered}
 
--- A longer one with its marks has a field that is too long for its columns, 11; any other is not a line, 10.
+-- A line of more than 249 bytes that has its marks has a field that is too long for its columns, 11; any other is not a line, 10.
 unfoldable pub longOutcome : Gathered → Listed
 longOutcome g = cond (eqb (g .semicolons) 29 && (eqb (g .feeds) 1 && isFeed (g .last))) listed.FieldTooLong listed.NotALine
 

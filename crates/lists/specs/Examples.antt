@@ -51,7 +51,7 @@ short-split : split 3 (70 ∷ 66 ∷ 59 ∷ 59 ∷ 55 ∷ 10 ∷ []) ≡ bytes "
 unfolding split before behind
 short-split = refl
 
--- but twenty-nine semicolons are not.
+-- but without twenty-nine semicolons it is no station's line.
 short-refused : isLine (70 ∷ 66 ∷ 59 ∷ 59 ∷ 55 ∷ 10 ∷ []) ≡ false
 unfolding isLine howMany
 short-refused = refl
