@@ -59,11 +59,11 @@ fn refuse(progress: Progress, refusal: u8, code: u8) -> Progress
     }
 }
 
-// Names a line whose record cannot be written, as on a disk that is full.
-fn name_lost(line: u64) {
+// Names a line that is lost: it cannot be read, or its record cannot be written, as on a disk that is full.
+fn name_lost(line: u64, how: &[u8]) {
     io::write_all(2, b"line ");
     io::print_decimal(2, line);
-    io::write_all(2, b" not written\n");
+    io::write_all(2, how);
 }
 
 // A line is written as its record, and counts as refused where that fails; the next one begins.
@@ -79,7 +79,7 @@ fn write(progress: Progress, record: &[u8]) -> Progress
             ..progress
         };
     }
-    name_lost(lines);
+    name_lost(lines, b" not written\n");
     Progress {
         gathered: nothing(),
         lines,
@@ -135,10 +135,26 @@ fn take_piece(line: &mut [u8; 250], progress: Progress, piece: &[u8]) -> Progres
     further
 }
 
+// Reading fails: the line that it would go on counts as refused, and no more may come.
+fn break_off(progress: Progress) -> Progress {
+    let lines = next(progress.lines);
+    name_lost(lines, b" not read\n");
+    Progress {
+        gathered: nothing(),
+        lines,
+        refused: next(progress.refused),
+        more: false,
+        ..progress
+    }
+}
+
 // Reads the next piece and takes it in.
 fn read_piece(line: &mut [u8; 250], progress: Progress) -> Progress {
     let mut space = io::buffer();
     let got = libc::read(0, &mut space);
+    if got < 0 {
+        return break_off(progress);
+    }
     let n = io::count(got, &space);
     if n == 0 {
         return Progress {
