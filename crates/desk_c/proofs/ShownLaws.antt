@@ -1,31 +1,24 @@
--- `desk_show`: where a field stands, and that what it locates is what is shown.
+-- `desk_show`: where a field stands, and that what it locates is the very piece that `show` hands out.
 -- Assumes nothing.
-use mathlib.Core.Path.{_≡_, refl, sym}
-use mathlib.Core.Bool.{Bool, true, false}
+use mathlib.Core.Path.{_≡_, sym, ap, _∙_}
+use mathlib.Core.Bool.{true, false}
 use mathlib.Core.List.{List}
 use Prim.Native.Nat.{ℕ, _+_, _-_, _*_, _≤_}
 use native.Mathlib.Omega.{arith}
-use lib.ListN.{length, take, drop}
+use lib.ListN.{length}
+use denote.Ref.{RefT, ptr, now}
 use borrow.Author.Tests.{eqb-true}
 use Rattle.filing.specs.Fields.{placeOf}
 use Rattle.filing.specs.Outcomes.{refusal, ifDone}
 use Rattle.filing.specs.declared.Place.{Place}
 use Rattle.files.specs.Files.{placesOf}
-use Rattle.files.specs.Calls.{showOutcome, shownField}
+use Rattle.files.specs.Calls.{showOutcome, shownOffset, shownLength}
+use Rattle.files.specs.Promises.{StandsAt, FieldShown}
 use Rattle.files.proofs.LengthLaws.{done, whole-records}
 use Rattle.files.proofs.PlaceLaws.{places-tile, place-inside}
-use Rattle.files.proofs.ShowLaws.{shown-there, shown-at}
-use Rattle.desk_c.specs.Filings.{shownOffset, shownLength}
+use Rattle.files.proofs.ShowLaws.{shown-there}
+use Rattle.files.proofs.PieceLaws.{shown-length}
 use Rattle.desk_c.specs.Promises.{FieldLocated}
-
--- As many bytes as the length says, from the offset on, are the field; on a refusal there are none.
-pub located : (file : List ℕ) (k j : ℕ) → take (shownLength file k j) (drop (shownOffset file k j) file) ≡ shownField file k j
-unfolding shownLength shownOffset shownField ifDone
-located file k j = by-case (done (showOutcome file k j)) refl
-  where
-    by-case : (b : Bool) → done (showOutcome file k j) ≡ b → take (shownLength file k j) (drop (shownOffset file k j) file) ≡ shownField file k j
-    by-case true e = rw e (shown-at file k j (shown-there file k j e))
-    by-case false e = rw e
 
 -- a file of which a field can be shown is not too long
 file-length : (file : List ℕ) (k j : ℕ) → done (showOutcome file k j) ≡ true → length file ≤ 54969
@@ -50,3 +43,9 @@ module _ (file : List ℕ) (k j : ℕ) where
   pub located-there : {p : Place} → p ≡ placeOf (placesOf k) j → done (showOutcome file k j) ≡ true → FieldLocated file k j 0 (219 * k + (p .first - 1)) (p .length)
   unfolding shownOffset shownLength ifDone
   located-there e t = (sym (eqb-true (refusal (showOutcome file k j)) 0 t), rw (e, t), rw (e, t))
+
+-- What it locates is the piece that `show` hands out.
+pub locates-shown : (file piece : RefT (List ℕ)) (k j answer offset size : ℕ) → FieldShown file k j piece → FieldLocated (now file) k j answer offset size
+    → StandsAt file offset piece × (length (now piece) ≡ size)
+locates-shown file piece k j answer offset size s l =
+    (s .1 ∙ ap (λ (a : ℕ). (ptr file .0, ptr file .1 + a)) (sym (l .1)), ap length (s .0) ∙ shown-length (now file) k j ∙ sym (l .2))

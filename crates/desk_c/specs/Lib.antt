@@ -1,4 +1,3 @@
 pub mod Endings
 pub mod Records
-pub mod Filings
 pub mod Promises

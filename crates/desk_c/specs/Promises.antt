@@ -12,9 +12,8 @@ use Rattle.station.specs.declared.setting.Settled.{Settled}
 use Rattle.reading.specs.declared.typed.ReadStation.{ReadStation}
 use Rattle.lists.specs.Calls.{recordListing, listedLength, listedRecord, lineFiling, filedLine}
 use Rattle.header.specs.Calls.{readHeaderOutcome}
-use Rattle.files.specs.Calls.{showOutcome}
+use Rattle.files.specs.Calls.{showOutcome, shownOffset, shownLength}
 use Rattle.sheet.specs.Calls.{judgeOutcome, judgedInto, replaceOutcome, replacedFile, replacedSheet, replacedRows}
-use Rattle.desk_c.specs.Filings.{shownOffset, shownLength}
 use Rattle.desk_c.specs.Endings.{firstRefusal, Answered, AnsweredOnLine, Ended}
 use Rattle.desk_c.specs.Records.{respellOutcome, respelledStation, respellHeaderOutcome, respelledHeader, changeOutcome, changedRecord, tenthsStated, heightStated}
 

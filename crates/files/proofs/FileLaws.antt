@@ -2,7 +2,7 @@
 -- Assumes nothing.
 use mathlib.Core.Path.{_≡_, sym, _∙_}
 use mathlib.Core.List.{List, []}
-use Prim.Native.Nat.{ℕ, _+_, _-_, _*_, _/_, _≤_, _<_, zero-le}
+use Prim.Native.Nat.{ℕ, _+_, _-_, _*_, _/_, _≤_, _<_}
 use native.Mathlib.Nat.{add-sub-cancel-left, le-refl}
 use native.Mathlib.Omega.{arith}
 use lib.ListN.{length, take, drop, length-drop, drop-of-length-le}
@@ -11,11 +11,9 @@ use Rattle.files.specs.Files.{recordAt}
 
 module _ (file : List ℕ) (k : ℕ) where
   -- past the last byte there is nothing,
-  pub record-past : length file / 219 < k → take (length file - length file) (drop (length file) file) ≡ recordAt file k
+  pub record-past : length file / 219 < k → [] ≡ recordAt file k
   unfolding recordAt
-  record-past h =
-      let past : length file ≤ 219 * k = omega arith in
-      rw (drop-of-length-le file past, drop-of-length-le file (le-refl (length file)), take-all (length file - length file) [] zero-le)
+  record-past h = let past : length file ≤ 219 * k = omega arith in rw (drop-of-length-le file past)
 
   -- at the end there is what the file has left,
   pub record-last : k ≡ length file / 219 → take (length file - 219 * k) (drop (219 * k) file) ≡ recordAt file k

@@ -1,6 +1,7 @@
 pub mod FileLaws
 pub mod LengthLaws
 pub mod PlaceLaws
+pub mod PieceLaws
 pub mod ReplacedLaws
 pub mod ShowLaws
 pub mod Unique

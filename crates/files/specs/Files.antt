@@ -20,6 +20,10 @@ stations file = length file / recordLength - 1
 unfoldable pub recordAt : List ℕ → ℕ → List ℕ
 recordAt file k = take recordLength (drop (recordLength * k) file)
 
+-- How many bytes stand before it: 219 for each record before it, and all of a file that ends sooner.
+unfoldable pub recordOffset : List ℕ → ℕ → ℕ
+recordOffset file k = length (take (recordLength * k) file)
+
 -- The file with another record number k.
 unfoldable pub withRecord : List ℕ → ℕ → List ℕ → List ℕ
 withRecord file k r = take (recordLength * k) file ++ (r ++ drop (recordLength * k + recordLength) file)

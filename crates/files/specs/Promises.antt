@@ -1,13 +1,18 @@
 -- What the calls on files promise, as relations between what they are given and their answers.
-use Prim.Native.Nat.{ℕ}
+use Prim.Native.Nat.{ℕ, _+_}
 use mathlib.Core.Path.{_≡_}
 use mathlib.Core.List.{List}
+use denote.Ref.{RefT, ptr, now}
 use Rattle.filing.specs.Fields.{placeOf}
 use Rattle.filing.specs.declared.Outcome.{Outcome}
 use Rattle.filing.specs.declared.Outcome.the-variants as outcome
 use Rattle.filing.specs.declared.Place.{Place}
-use Rattle.files.specs.Files.{stations, recordAt, placesOf}
-use Rattle.files.specs.Calls.{fileOutcome, showOutcome, shownField}
+use Rattle.files.specs.Files.{stations, recordAt, recordOffset, placesOf}
+use Rattle.files.specs.Calls.{fileOutcome, showOutcome, shownField, shownOffset}
+
+-- A piece of the bytes that are lent, not a copy: it begins a bytes after their first.
+abbrev pub StandsAt : RefT (List ℕ) → ℕ → RefT (List ℕ) → Type 0
+StandsAt whole a piece = ptr piece ≡ (ptr whole .0, ptr whole .1 + a)
 
 -- `check_file`: 1, 2, or done.
 abbrev pub FileChecked : List ℕ → Outcome → Type 0
@@ -17,9 +22,9 @@ FileChecked file answer = answer ≡ fileOutcome file outcome.Done
 abbrev pub StationsCounted : List ℕ → ℕ → Type 0
 StationsCounted file answer = answer ≡ stations file
 
--- `record_in`: the piece of the file that is record number k.
-abbrev pub RecordFound : List ℕ → ℕ → List ℕ → Type 0
-RecordFound file k answer = answer ≡ recordAt file k
+-- `record_in`: the piece of the file itself that is record number k.
+abbrev pub RecordFound : RefT (List ℕ) → ℕ → RefT (List ℕ) → Type 0
+RecordFound file k answer = (now answer ≡ recordAt (now file) k) × StandsAt file (recordOffset (now file) k) answer
 
 -- `field_place`: where field j stands in record k.
 abbrev pub FieldPlaced : ℕ → ℕ → Place → Type 0
@@ -29,6 +34,6 @@ FieldPlaced k j answer = answer ≡ placeOf (placesOf k) j
 abbrev pub ShowJudged : List ℕ → ℕ → ℕ → Outcome → Type 0
 ShowJudged file k j answer = answer ≡ showOutcome file k j
 
--- `show`: the piece of the file that holds it.
-abbrev pub FieldShown : List ℕ → ℕ → ℕ → List ℕ → Type 0
-FieldShown file k j answer = answer ≡ shownField file k j
+-- `show`: the piece of the file itself that holds it.
+abbrev pub FieldShown : RefT (List ℕ) → ℕ → ℕ → RefT (List ℕ) → Type 0
+FieldShown file k j answer = (now answer ≡ shownField (now file) k j) × StandsAt file (shownOffset (now file) k j) answer

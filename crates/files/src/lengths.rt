@@ -31,7 +31,7 @@ pub fn stations_in(file: &[u8]) -> usize
 
 // Record number k, as a part of the file itself: what the file has of it, and nothing past its end.
 pub fn record_in(file: &[u8], k: usize) -> &[u8]
-    ensures { λ r. ⌜ RecordFound (now (file .entry)) k (now r) ⌝ }
+    ensures { λ r. ⌜ RecordFound (file .entry) k r ⌝ }
 {
     let records = file.len() / 219;
     if k > records {

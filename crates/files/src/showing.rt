@@ -13,7 +13,7 @@ ghost use lib.Dec.{ltb, eqb};
 ghost use Prim.Native.Nat.{_+_, _-_, _≤_};
 ghost use lib.ListN.{length, take, drop};
 ghost use Rattle.files.specs.Files.{fieldCount};
-ghost use Rattle.files.specs.Promises.{FieldPlaced, ShowJudged, FieldShown};
+ghost use Rattle.files.specs.Promises.{StandsAt, FieldPlaced, ShowJudged, FieldShown};
 
 // Record number k has a field number j.
 fn has_field(k: usize, j: usize) -> bool
@@ -58,16 +58,16 @@ pub fn show_outcome(file: &[u8], k: usize, j: usize) -> Outcome
 // Field j of a record that has it.
 fn field_in(rec: &[u8], place: Place) -> &[u8]
     requires { ⌜ (1 ≤ place .first) × (place .first + place .length ≤ length (now rec) + 1) ⌝ }
-    ensures { λ r. ⌜ now r ≡ take (place .length) (drop (place .first - 1) (now (rec .entry))) ⌝ }
+    ensures { λ r. ⌜ (now r ≡ take (place .length) (drop (place .first - 1) (now (rec .entry)))) × StandsAt (rec .entry) (place .first - 1) r ⌝ }
 {
     let start = place.first - 1;
     let end = start + place.length;
     &rec[start..end]
 }
 
-// The piece of the file that holds field j of record k, and an empty one on a refusal; `show_outcome` says which.
+// The piece of the file itself that holds field j of record k, and an empty one at its front on a refusal; `show_outcome` says which.
 pub fn show(file: &[u8], k: usize, j: usize) -> &[u8]
-    ensures { λ r. ⌜ FieldShown (now (file .entry)) k j (now r) ⌝ }
+    ensures { λ r. ⌜ FieldShown (file .entry) k j r ⌝ }
 {
     if !is_done(show_outcome(file, k, j)) {
         return &file[..0];

@@ -1,6 +1,9 @@
 -- `files::lengths::record_in` meets its contract. Assumes nothing.
 use denote.Ref.{now}
 use Rattle.files.proofs.FileLaws.{record-past, record-last, record-whole}
+use Rattle.files.proofs.PieceLaws.{cut-at, offset-there, offset-past}
+use native.Mathlib.Nat.{sub-self}
+use native.Mathlib.Omega.{arith}
 use borrow.Author.Needs.{needs}
 use Rattle.files.proofs.lengths.record_in.Statement.{statement}
 use Rattle.files.proofs.lengths.record_in.Tie as tie
@@ -15,7 +18,10 @@ part-result-end : tie.Need-part-result-end
 part-result-end c = search needs
 
 returns : tie.Need-returns
-returns c = let a = c .before .before .args in record-past (now (a .file)) (a .k) (c .before .if1 .taken)
+returns c =
+    let a = c .before .before .args in
+    let past = c .before .if1 .taken in
+    (rw sub-self (record-past (now (a .file)) (a .k) past), cut-at _ _ _ _ (offset-past (now (a .file)) (a .k) past))
 
 mul-start : tie.Need-mul-start
 mul-start c = search needs
@@ -30,7 +36,10 @@ part-result-end-2 : tie.Need-part-result-end-2
 part-result-end-2 c = search needs
 
 returns-2 : tie.Need-returns-2
-returns-2 c = let a = c .before .before .before .args in record-last (now (a .file)) (a .k) (c .before .if2 .taken)
+returns-2 c =
+    let a = c .before .before .before .args in
+    let last = c .before .if2 .taken in
+    (record-last (now (a .file)) (a .k) last, cut-at _ _ _ _ (offset-there (now (a .file)) (a .k) (omega arith)))
 
 add-end : tie.Need-add-end
 add-end c = search needs
@@ -45,7 +54,9 @@ part-result-end-3 : tie.Need-part-result-end-3
 part-result-end-3 c = search needs
 
 returns-3 : tie.Need-returns-3
-returns-3 c = let a = c .before .before .before .args in record-whole (now (a .file)) (a .k)
+returns-3 c =
+    let a = c .before .before .before .args in
+    (record-whole (now (a .file)) (a .k), cut-at _ _ _ _ (offset-there (now (a .file)) (a .k) (omega arith)))
 
 pub record-in-spec : {M : Type 1} → statement M
 record-in-spec =

@@ -1,6 +1,8 @@
 -- `files::showing::field_in` meets its contract. Assumes nothing.
+use mathlib.Core.Path.{refl}
 use Prim.Native.Nat.{_-_}
 use native.Mathlib.Nat.{add-sub-cancel-left}
+use Rattle.files.proofs.PieceLaws.{cut-at}
 use borrow.Author.Needs.{needs}
 use Rattle.files.proofs.showing.field_in.Statement.{statement}
 use Rattle.files.proofs.showing.field_in.Tie as tie
@@ -21,7 +23,7 @@ part-result-end : tie.Need-part-result-end
 part-result-end c = search needs
 
 returns : tie.Need-returns
-returns c = let a = c .before .before .before .args in rw (add-sub-cancel-left (a .place .first - 1) (a .place .length))
+returns c = let a = c .before .before .before .args in (rw (add-sub-cancel-left (a .place .first - 1) (a .place .length)), cut-at _ _ _ _ refl)
 
 pub field-in-spec : {M : Type 1} → statement M
 field-in-spec =

@@ -7,6 +7,7 @@ use Rattle.files.proofs.FileLaws.{record-wide}
 use Rattle.files.proofs.LengthLaws.{went-on, stopped}
 use Rattle.files.proofs.PlaceLaws.{places-tile, place-inside, piece-there}
 use Rattle.files.proofs.ShowLaws.{shown-there, shown-field, shown-nothing}
+use Rattle.files.proofs.PieceLaws.{front-at, offset-refused, field-stands}
 use borrow.Author.Needs.{needs}
 use Rattle.files.proofs.showing.show.Statement.{statement}
 use Rattle.files.proofs.showing.show.Tie as tie
@@ -23,7 +24,8 @@ slice-aggregate-result c = search needs
 returns : tie.Need-returns
 returns c =
     let a = c .before .before .before .before .before .args in
-    shown-nothing (now (a .file)) (a .k) (a .j) (stopped (c .before .before .before .show-outcome .ensures) (c .before .before .is-done .ensures) (c .before .if1 .taken))
+    let no = stopped (c .before .before .before .show-outcome .ensures) (c .before .before .is-done .ensures) (c .before .if1 .taken) in
+    (shown-nothing (now (a .file)) (a .k) (a .j) no, front-at (a .file) _ (offset-refused (now (a .file)) (a .k) (a .j) no))
 
 record-in-requires : tie.Need-record-in-requires
 record-in-requires c κs = search needs
@@ -36,7 +38,7 @@ field-in-requires c κs =
     let a = c .before .before .before .before .before .before .args in
     let file = now (a .file) in
     let there = shown-there file (a .k) (a .j) (went-on (c .before .before .before .before .show-outcome .ensures) (c .before .before .before .is-done .ensures) (c .before .before .if1 .left)) in
-    let wide : length (now (c .before .record-in .result)) ≡ 219 = ap length (c .before .record-in .ensures) ∙ record-wide file (a .k) (there .whole) in
+    let wide : length (now (c .before .record-in .result)) ≡ 219 = ap length (c .before .record-in .ensures .0) ∙ record-wide file (a .k) (there .whole) in
     let inside = place-inside (placesOf (a .k)) (a .j) (there .positive) (there .there) (places-tile (a .k)) in
     let place = c .field-place .ensures in
     rw (place, wide) inside
@@ -47,10 +49,12 @@ returns-2 c =
     let a = c .before .before .before .before .before .before .before .args in
     let file = now (a .file) in
     let yes = went-on (c .before .before .before .before .before .show-outcome .ensures) (c .before .before .before .before .is-done .ensures) (c .before .before .before .if1 .left) in
-    let there = shown-there file (a .k) (a .j) yes in
-    c .field-in .ensures
-    ∙ rw (c .before .field-place .ensures, c .before .before .record-in .ensures) (piece-there (placesOf (a .k)) (a .j) (there .positive) (there .there) (recordAt file (a .k)))
-    ∙ shown-field file (a .k) (a .j) yes
+    let there = shown-there file (a .k) (a .j) yes in (
+      c .field-in .ensures .0
+          ∙ rw (c .before .field-place .ensures, c .before .before .record-in .ensures .0) (piece-there (placesOf (a .k)) (a .j) (there .positive) (there .there) (recordAt file (a .k)))
+          ∙ shown-field file (a .k) (a .j) yes,
+      field-stands (a .file) (c .before .before .record-in .result) (c .field-in .result) (a .k) (a .j) (c .before .field-place .ensures) yes (c .before .before .record-in .ensures .1) (c .field-in .ensures .1),
+    )
 
 pub show-spec : {M : Type 1} → statement M
 show-spec =

@@ -28,7 +28,7 @@ returns c =
     let a = c .before .before .before .before .args in
     c .code-with .ensures
     ∙ ap (λ (o : Outcome). codeWith o) (c .before .check-station .ensures)
-    ∙ ap (λ (r : List ℕ). codeWith (readOutcome r)) (c .before .before .record-in .ensures)
+    ∙ ap (λ (r : List ℕ). codeWith (readOutcome r)) (c .before .before .record-in .ensures .0)
     ∙ station-checked _ (record-wide (now (a .file)) (a .k) (c .before .before .before .before .pre))
 
 pub code-spec : {M : Type 1} → statement M

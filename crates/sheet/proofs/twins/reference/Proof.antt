@@ -25,11 +25,11 @@ part-result-start c = search needs
 part-result-end : tie.Need-part-result-end
 part-result-end c =
     let a = c .before .before .args in
-    le-of-eq (sym (ap length (c .record-in .ensures) ∙ record-wide (now (a .file)) (a .k) (c .before .before .pre)))
+    le-of-eq (sym (ap length (c .record-in .ensures .0) ∙ record-wide (now (a .file)) (a .k) (c .before .before .pre)))
 
 returns : tie.Need-returns
 unfolding referenceAt fieldsOf
-returns c = ap (λ (r : List ℕ). take 15 (drop 204 r)) (c .before .record-in .ensures)
+returns c = ap (λ (r : List ℕ). take 15 (drop 204 r)) (c .before .record-in .ensures .0)
 
 pub reference-spec : {M : Type 1} → statement M
 reference-spec =
