@@ -33,7 +33,8 @@ use Rattle.header.specs.Rules.{headerRules}
 use Rattle.header.specs.Codes.{headerValue, headerCode, filedHeaderCode}
 use Rattle.files.specs.Files.{stations, recordAt, withRecord, tooLong, notRecords, placesOf, fieldAt, fieldCount}
 use Rattle.files.specs.Calls.{fileOutcome, showOutcome, shownField}
-use Rattle.sheet.specs.Sheets.{codeAt, referenceAt, twinAt, rowOf, rowIn, bad, trailer, withTrailer, judgedSheet, sheetOf, headIn, trailerFits}
+use Rattle.sheet.specs.Sheets.{codeAt, referenceAt, twinAt, rowOf, judgedSheet, sheetOf}
+use Rattle.sheet.specs.Forms.{rowAt, badAt, trailerOf, closed, headAt, fitsForm}
 use Rattle.sheet.specs.Replacing.{touched, mendedRow, rowsWritten}
 use Rattle.sheet.specs.Replacing as replacing
 use Rattle.sheet.specs.Calls.{replaceOutcome, replacedSheet, replacedRows}
@@ -158,7 +159,7 @@ pub record Worked : Type 0 where
   pub no-field : refusal (showOutcome two 0 15) ≡ 8
 
 pub worked : Worked
-unfolding Holds among isHex isNarrow isText isName skip trimmed every howMany each byteGood same oneOf leading numberFrom wholeDigits wholeOf unsigned signedOf fractionOf magnitudeOf decimalOf dateRule dateIn dateOf dayGood dayOf tenthsGood tenthsOf amountGood unitGood unitOf frequencyOf radiusOf groundOf heightGood heightOf arcSeconds arcGood arcOf positionGood positionOf bandwidthGood detailGood emissionGood cellGood installationGood remarksGood isCategory classGood serviceGood usersGood isCarrier nameGood countryGood isBasis polarisationGood antennaGood isStatus referenceGood firstBroken fieldsOf fieldRules channelFields siteFields emissionFields antennaFields filingFields mobile roundAntenna firstBetween lastBetween betweenRules stationOf valueOf stationCode isMail textGood dateGood serialGood serialOf headerOf headerFields headerRules headerValue headerCode filedHeaderCode stations recordAt withRecord referenceAt codeAt tooLong notRecords placesOf fieldAt fieldCount twinAt rowOf rowIn bad trailer withTrailer judgedSheet sheetOf headIn trailerFits touched mendedRow replacing.mendedSheet rowsWritten refusal ifDone fileOutcome replaceOutcome replacedSheet replacedRows showOutcome shownField frequencyFits dayFits radiusFits groundFits heightFits positionFits tenthsFit channelRules siteRules emissionRules antennaRules filingRules typedRules typedCode spellDigits spellMagnitude spellDecimal spellSigned spellDate spellDay spellTenths unitLetter spellAmount spellUnit spellRadius spellGround spellHeight spellArc spellPosition channelPieces sitePieces emissionPieces antennaPieces filingPieces stationPieces spellStation trimmedField paddedField lineOf before behind split lineFields isLine lines.recordOf listedRefusal listedCode ifListed unbroken lineOutcome stationInLine
+unfolding Holds among isHex isNarrow isText isName skip trimmed every howMany each byteGood same oneOf leading numberFrom wholeDigits wholeOf unsigned signedOf fractionOf magnitudeOf decimalOf dateRule dateIn dateOf dayGood dayOf tenthsGood tenthsOf amountGood unitGood unitOf frequencyOf radiusOf groundOf heightGood heightOf arcSeconds arcGood arcOf positionGood positionOf bandwidthGood detailGood emissionGood cellGood installationGood remarksGood isCategory classGood serviceGood usersGood isCarrier nameGood countryGood isBasis polarisationGood antennaGood isStatus referenceGood firstBroken fieldsOf fieldRules channelFields siteFields emissionFields antennaFields filingFields mobile roundAntenna firstBetween lastBetween betweenRules stationOf valueOf stationCode isMail textGood dateGood serialGood serialOf headerOf headerFields headerRules headerValue headerCode filedHeaderCode stations recordAt withRecord referenceAt codeAt tooLong notRecords placesOf fieldAt fieldCount twinAt rowOf rowAt badAt trailerOf closed judgedSheet sheetOf headAt fitsForm touched mendedRow replacing.mendedSheet rowsWritten refusal ifDone fileOutcome replaceOutcome replacedSheet replacedRows showOutcome shownField frequencyFits dayFits radiusFits groundFits heightFits positionFits tenthsFit channelRules siteRules emissionRules antennaRules filingRules typedRules typedCode spellDigits spellMagnitude spellDecimal spellSigned spellDate spellDay spellTenths unitLetter spellAmount spellUnit spellRadius spellGround spellHeight spellArc spellPosition channelPieces sitePieces emissionPieces antennaPieces filingPieces stationPieces spellStation trimmedField paddedField lineOf before behind split lineFields isLine lines.recordOf listedRefusal listedCode ifListed unbroken lineOutcome stationInLine
 worked = record {
   traps-hold = (
     (refl, refl),

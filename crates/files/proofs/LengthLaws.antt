@@ -10,6 +10,7 @@ use native.Mathlib.Omega.{arith}
 use lib.ListN.{length}
 use lib.Dec.{eqb}
 use borrow.Author.Tests.{eqb-true, eqb-false, ltb-false, not-true, not-false}
+use Rattle.filing.specs.Fields.{recordLength}
 use Rattle.filing.specs.Outcomes.{refusal}
 use Rattle.filing.specs.declared.Outcome.{Outcome}
 use Rattle.filing.specs.declared.Outcome.the-variants as outcome
@@ -81,7 +82,7 @@ module _ (file : List ℕ) where
       let a = answered-no (tooLong file) outcome.FileTooLong (cond (notRecords file) outcome.FileNotRecords rest) refl t in
       let b = answered-no (notRecords file) outcome.FileNotRecords rest refl (a .1) in
       let o = or-false (eqb (length file) 0) (not (eqb (length file % 219) 0)) (b .0) in
-      let most : length file ≤ 54969 = ltb-false _ _ (a .0) in
+      let most : length file ≤ recordLength * (mostStations + 1) = ltb-false _ _ (a .0) in
       let some = eqb-false _ _ (o .0) in
       let whole : length file % 219 ≡ 0 = eqb-true _ _ (not-false _ (o .1)) in
       let pos : 0 < length file = ⊎-elim (λ q. absurd (some (sym q))) (λ q. q) (eq-or-lt-of-le zero-le) in

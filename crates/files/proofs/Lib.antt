@@ -3,5 +3,6 @@ pub mod LengthLaws
 pub mod PlaceLaws
 pub mod PieceLaws
 pub mod ReplacedLaws
+pub mod PutLaws
 pub mod ShowLaws
 pub mod Unique

@@ -2,17 +2,24 @@
 use filing::Outcome;
 ghost use Rattle.files.specs.Promises.{FileChecked, StationsCounted, RecordFound};
 
+// The bytes of a record, the most stations of a file, and the most bytes.
+pub const RECORD_LENGTH: usize = 219;
+
+pub const MOST_STATIONS: usize = 250;
+
+pub const MOST_BYTES: usize = RECORD_LENGTH * (MOST_STATIONS + 1);
+
 // Whether a file has a length that calls take: 1, 2, or done.
 pub fn check_file(file: &[u8]) -> Outcome
     ensures { λ r. ⌜ FileChecked (now (file .entry)) r ⌝ }
 {
-    if file.len() > 54969 {
+    if file.len() > MOST_BYTES {
         return Outcome::FileTooLong;
     }
     if file.len() == 0 {
         return Outcome::FileNotRecords;
     }
-    if file.len() % 219 != 0 {
+    if file.len() % RECORD_LENGTH != 0 {
         return Outcome::FileNotRecords;
     }
     Outcome::Done
@@ -22,7 +29,7 @@ pub fn check_file(file: &[u8]) -> Outcome
 pub fn stations_in(file: &[u8]) -> usize
     ensures { λ r. ⌜ StationsCounted (now (file .entry)) r ⌝ }
 {
-    let records = file.len() / 219;
+    let records = file.len() / RECORD_LENGTH;
     if records == 0 {
         return 0;
     }
@@ -33,14 +40,14 @@ pub fn stations_in(file: &[u8]) -> usize
 pub fn record_in(file: &[u8], k: usize) -> &[u8]
     ensures { λ r. ⌜ RecordFound (file .entry) k r ⌝ }
 {
-    let records = file.len() / 219;
+    let records = file.len() / RECORD_LENGTH;
     if k > records {
         return &file[file.len()..];
     }
-    let start = 219 * k;
+    let start = RECORD_LENGTH * k;
     if k == records {
         return &file[start..];
     }
-    let end = start + 219;
+    let end = start + RECORD_LENGTH;
     &file[start..end]
 }

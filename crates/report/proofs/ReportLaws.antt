@@ -11,7 +11,7 @@ use borrow.Author.Tests.{not-true, not-false}
 use Rattle.filing.specs.Outcomes.{refusal, ifDone}
 use Rattle.filing.specs.declared.Outcome.{Outcome}
 use Rattle.filing.specs.declared.Outcome.the-variants as outcome
-use Rattle.files.specs.Files.{stations}
+use Rattle.files.specs.Files.{stations, mostStations}
 use Rattle.files.proofs.LengthLaws.{done, whole-records}
 use Rattle.sheet.specs.Counting.{rows}
 use Rattle.sheet.specs.Sheets.{sheetOf}
@@ -31,7 +31,7 @@ module _ (file : List ℕ) {o : Outcome} {b : Bool} (asked : o ≡ lengthOutcome
   taken e = ap (λ (o : Outcome). done o) (sym asked) ∙ sym answer ∙ not-false b e
 
 -- A file whose length is right has at most 250 stations.
-pub few : (file : List ℕ) {n : ℕ} → done (lengthOutcome file) ≡ true → n ≡ stations file → n ≤ 250
+pub few : (file : List ℕ) {n : ℕ} → done (lengthOutcome file) ≡ true → n ≡ stations file → n ≤ mostStations
 few file t e = rw e (whole-records file outcome.Done t .0)
 
 -- A refused file has its one line,

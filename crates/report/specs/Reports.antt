@@ -2,19 +2,19 @@
 use Prim.Native.Nat.{ℕ}
 use mathlib.Core.Bool.{cond}
 use mathlib.Core.List.{List, [], _++_}
-use lib.ListN.{getD}
 use Rattle.filing.specs.Outcomes.{refusal, ifDone}
 use Rattle.filing.specs.declared.Outcome.{Outcome}
 use Rattle.filing.specs.declared.Outcome.the-variants as outcome
 use Rattle.files.specs.Files.{stations}
 use Rattle.files.specs.Calls.{fileOutcome}
 use Rattle.sheet.specs.Counting.{count, rows}
-use Rattle.sheet.specs.Sheets.{rowIn, bad, sheetOf, headIn}
+use Rattle.sheet.specs.Forms.{codeIn}
+use Rattle.sheet.specs.Sheets.{rowIn, twinIn, bad, sheetOf, headIn}
 use Rattle.report.specs.Lines.{refusedLine, headerLine, stationLine, totalLine}
 
 -- The line of row k: its code and its twin where it is bad, else none.
 unfoldable pub rowLine : List ℕ → ℕ → List ℕ
-rowLine sheet k = cond (bad sheet k) (stationLine k (getD (rowIn sheet k) 0 0) (getD (rowIn sheet k) 1 0)) []
+rowLine sheet k = cond (bad sheet k) (stationLine k (codeIn (rowIn sheet k)) (twinIn sheet k)) []
 
 -- The lines of a sheet of n rows of which so many are bad: the header's code, the bad rows ascending, and both numbers.
 unfoldable pub sheetLines : List ℕ → ℕ → ℕ → List ℕ

@@ -8,41 +8,37 @@ use files::lengths::stations_in;
 use filing::outcomes::is_done;
 use filing::outcomes::refusal_number;
 use sheet::judging::judge;
+use sheet::readers::found;
+use sheet::readers::head_code;
+use sheet::readers::row_code;
+use sheet::readers::row_twin;
+use sheet::rows::ROW_WIDTH;
+use sheet::rows::TRAILER_LENGTH;
+use sheet::rows::is_bad;
 ghost use mathlib.Core.Path.{_≡_};
-ghost use mathlib.Core.Bool.{true, not, _&&_};
+ghost use mathlib.Core.Bool.{true};
 ghost use Prim.Native.Nat.{_+_, _*_, _≤_};
-ghost use lib.ListN.{length, getD};
+ghost use lib.ListN.{length};
 ghost use lib.Dec.{eqb};
 ghost use Rattle.filing.specs.Outcomes.{refusal};
-ghost use Rattle.files.specs.Files.{stations};
+ghost use Rattle.files.specs.Files.{stations, mostStations};
 ghost use Rattle.sheet.specs.Counting.{rows};
-ghost use Rattle.sheet.specs.Sheets.{sheetOf};
+ghost use Rattle.sheet.specs.Sheets.{sheetOf, rowWidth, sheetLength, foundIn};
 ghost use Rattle.report.specs.Reports.{rowLine, sheetLines, sheetReport, lengthOutcome};
 ghost use Rattle.report.specs.Promises.{Appended, ReportWritten};
-
-// Whether a row is bad: either byte is not 0.
-fn is_bad(code: u8, twin: u8) -> bool
-    ensures { λ r. ⌜ r ≡ not (eqb code 0 && eqb twin 0) ⌝ }
-{
-    if code != 0 {
-        return true;
-    }
-    twin != 0
-}
 
 // Puts in the line of row i + 1 where it is bad, and answers where it ends.
 fn put_row(out: &mut [u8], start: usize, sheet: &[u8], i: usize) -> usize
     requires { ⌜ start + 30 ≤ length (now out) ⌝ }
-    requires { ⌜ (i + 1 ≤ 250) × (2 * i + 2 ≤ length (now sheet)) ⌝ }
+    requires { ⌜ (i + 1 ≤ mostStations) × (rowWidth * i + rowWidth ≤ length (now sheet)) ⌝ }
     ensures { λ r. ⌜ Appended (now (out .entry)) start (rowLine (now (sheet .entry)) (i + 1)) (now (out .exit)) r ⌝ }
     ensures { λ r. ⌜ r ≤ start + 30 ⌝ }
 {
-    let at = 2 * i;
-    let code = sheet[at];
-    let twin = sheet[at + 1];
-    if !is_bad(code, twin) {
+    if !is_bad(sheet, i) {
         return start;
     }
+    let code = row_code(sheet, i);
+    let twin = row_twin(sheet, i);
     let k = i + 1;
     put_station(out, start, k as u8, code, twin)
 }
@@ -50,7 +46,7 @@ fn put_row(out: &mut [u8], start: usize, sheet: &[u8], i: usize) -> usize
 // Puts in the lines of all bad rows of n, and answers where they end.
 fn put_rows(out: &mut [u8], start: usize, sheet: &[u8], n: usize) -> usize
     requires { ⌜ start + 30 * n ≤ length (now out) ⌝ }
-    requires { ⌜ (n ≤ 250) × (2 * n ≤ length (now sheet)) ⌝ }
+    requires { ⌜ (n ≤ mostStations) × (rowWidth * n ≤ length (now sheet)) ⌝ }
     ensures { λ r. ⌜ Appended (now (out .entry)) start (rows (rowLine (now (sheet .entry))) n) (now (out .exit)) r ⌝ }
     ensures { λ r. ⌜ r ≤ start + 30 * n ⌝ }
 {
@@ -65,20 +61,17 @@ fn put_rows(out: &mut [u8], start: usize, sheet: &[u8], n: usize) -> usize
 
 // Puts in the lines of a sheet of n rows, and answers where they end.
 fn put_sheet(out: &mut [u8], sheet: &[u8], n: usize) -> usize
-    requires { ⌜ (n ≤ 250) × (length (now sheet) ≡ 2 * n + 8) × (8192 ≤ length (now out)) ⌝ }
-    ensures { λ r. ⌜ Appended (now (out .entry)) 0 (sheetLines (now (sheet .entry)) n (getD (now (sheet .entry)) (2 * n + 5) 0)) (now (out .exit)) r ⌝ }
+    requires { ⌜ (n ≤ mostStations) × (length (now sheet) ≡ sheetLength n) × (8192 ≤ length (now out)) ⌝ }
+    ensures { λ r. ⌜ Appended (now (out .entry)) 0 (sheetLines (now (sheet .entry)) n (foundIn (now (sheet .entry)) n)) (now (out .exit)) r ⌝ }
 {
-    let trailer = 2 * n;
-    let head = sheet[trailer + 3];
-    let found = sheet[trailer + 5];
-    let header_end = put_header(out, 0, head);
+    let header_end = put_header(out, 0, head_code(sheet, n));
     let rows_end = put_rows(out, header_end, sheet, n);
-    put_total(out, rows_end, n as u8, found)
+    put_total(out, rows_end, n as u8, found(sheet, n))
 }
 
 // Judges a file of n stations into a sheet, puts in the sheet's lines, and answers where they end.
 fn put_judged(out: &mut [u8], file: &[u8], sheet: &mut [u8], n: usize) -> usize
-    requires { ⌜ (n ≡ stations (now file)) × (length (now sheet) ≡ 2 * n + 8) × (8192 ≤ length (now out)) ⌝ }
+    requires { ⌜ (n ≡ stations (now file)) × (length (now sheet) ≡ sheetLength n) × (8192 ≤ length (now out)) ⌝ }
     requires { ⌜ eqb (refusal (lengthOutcome (now file))) 0 ≡ true ⌝ }
     ensures { λ r. ⌜ Appended (now (out .entry)) 0 (sheetReport (sheetOf (now (file .entry))) n) (now (out .exit)) r ⌝ }
 {
@@ -88,7 +81,7 @@ fn put_judged(out: &mut [u8], file: &[u8], sheet: &mut [u8], n: usize) -> usize
 
 // Room for the sheet of 250 stations.
 fn sheet_space() -> [u8; 508]
-    ensures { λ r. ⌜ 508 ≡ length r ⌝ }
+    ensures { λ r. ⌜ sheetLength mostStations ≡ length r ⌝ }
 {
     [0; 508]
 }
@@ -100,7 +93,7 @@ fn put_file(out: &mut [u8], file: &[u8]) -> usize
     ensures { λ r. ⌜ Appended (now (out .entry)) 0 (sheetReport (sheetOf (now (file .entry))) (stations (now (file .entry)))) (now (out .exit)) r ⌝ }
 {
     let n = stations_in(file);
-    let end = 2 * n + 8;
+    let end = ROW_WIDTH * n + TRAILER_LENGTH;
     let mut space = sheet_space();
     put_judged(out, file, &mut space[..end], n)
 }

@@ -20,6 +20,11 @@ pub first-cong : (p q : ℕ → Bool) (n : ℕ) → ((i : ℕ) → i < n → p (
 first-cong p q zero h = refl
 first-cong p q (suc n) h = rw (first-cong p q n (λ i l. h i (omega arith)), h n (le-refl (suc n)))
 
+-- and their counts
+pub count-cong : (p q : ℕ → Bool) (n : ℕ) → ((i : ℕ) → i < n → p (suc i) ≡ q (suc i)) → count p n ≡ count q n
+count-cong p q zero h = refl
+count-cong p q (suc n) h = rw (count-cong p q n (λ i l. h i (omega arith)), h n (le-refl (suc n)))
+
 -- a search that has found none so far
 module _ (p : ℕ → Bool) (n i : ℕ) (none : first p i ≡ 0) where
   pub first-found : i < n → p (i + 1) ≡ true → i + 1 ≡ first p n

@@ -5,18 +5,21 @@ use mathlib.Core.Bool.{Bool, true, false}
 use mathlib.Core.List.{List, [], _∷_, _++_}
 use Prim.Native.Nat.{ℕ, suc, _+_, _-_, _*_, _≤_, _<_}
 use native.Mathlib.Omega.{arith}
-use lib.ListN.{length, getD, take}
-use lib.Seq.{take-at, length-take-le, getD-append-add}
+use lib.ListN.{length, take}
+use lib.Seq.{length-take-le}
 use Rattle.filing.specs.Outcomes.{ifDone}
+use Rattle.header.specs.Codes.{filedHeaderCode}
 use Rattle.files.specs.Files.{stations, recordAt, withRecord}
 use Rattle.files.proofs.LengthLaws.{done}
 use Rattle.files.proofs.ReplacedLaws.{replaced-record, other-record}
-use Rattle.sheet.specs.Counting.{rows}
-use Rattle.sheet.specs.Sheets.{referenceAt, rowIn, headIn, trailer, withTrailer, sheetOf}
+use Rattle.sheet.specs.Counting.{first, count, rows}
+use Rattle.sheet.specs.Sheets.{form, rowWidth, referenceAt, rowOf, rowIn, bad, headIn, lowestIn, foundIn, sheetOf}
+use Rattle.sheet.specs.Forms.{rowAt, closed}
 use Rattle.sheet.specs.Replacing.{touched, mendedRow, mendedSheet, rowsWritten}
 use Rattle.sheet.specs.Calls.{replaceOutcome, replacedFile, replacedSheet, replacedRows, afterAll}
 use Rattle.sheet.proofs.CountLaws.{those, count-those}
-use Rattle.sheet.proofs.RowLaws.{length-rows, row-back}
+use Rattle.sheet.proofs.RowLaws.{Wide, length-rows, row-back}
+use Rattle.sheet.proofs.FormLaws.{head-back, rows-back, lowest-whole, found-whole}
 use Rattle.sheet.proofs.RowsMended.{mended-wide}
 use Rattle.sheet.proofs.CallLaws.{allowed, still-judged}
 
@@ -67,29 +70,48 @@ module _ (file sheet : List ℕ) (k : ℕ) (r : List ℕ) (accepted : done (repl
   abbrev pub written : ℕ → Bool
   written = touched (withRecord file (suc k) r) (referenceAt file (suc k)) (suc k)
 
-  room : 2 * stations file ≤ length sheet
+  room : rowWidth * stations file ≤ length sheet
   room = let may = allowed file sheet (suc k) r accepted in omega (arith, may .sizes .sheet-size)
+
+  -- what stands after it has the length of its rows
+  abbrev mendedTo : ℕ → List ℕ
+  mendedTo = mendedRow (withRecord file (suc k) r) (referenceAt file (suc k)) (suc k) sheet
+
+  wide : Wide rowWidth mendedTo (stations file)
+  wide = mended-wide (withRecord file (suc k) r) (referenceAt file (suc k)) (suc k) sheet (stations file) room
+
+  -- and is so closed
+  ended : replacedSheet file sheet (suc k) r ≡ closed form (stations file) (headIn sheet (stations file)) (rows mendedTo (stations file))
+  unfolding mendedSheet
+  ended = mended file sheet (suc k) r accepted
+
+  standing-size : length (rows mendedTo (stations file)) ≡ rowWidth * stations file
+  standing-size = length-rows rowWidth mendedTo (stations file) wide
+
+  -- writes each of them by the new file,
+  pub own-rows : (i : ℕ) → i < stations file → written (suc i) ≡ true → rowIn (replacedSheet file sheet (suc k) r) (suc i) ≡ rowOf (replacedFile file sheet (suc k) r) (suc i)
+  unfolding rowAt closed mendedRow replacedFile ifDone
+  own-rows i h w =
+      let e : suc i - 1 ≡ i = omega arith in
+      rw (ended, e, accepted) (row-back rowWidth mendedTo (stations file) wide i _ h ∙ rw w)
 
   -- keeps every other row,
   pub other-rows : (i : ℕ) → i < stations file → written (suc i) ≡ false → rowIn (replacedSheet file sheet (suc k) r) (suc i) ≡ rowIn sheet (suc i)
-  unfolding rowIn mendedSheet withTrailer mendedRow
+  unfolding rowAt closed mendedRow
   other-rows i h w =
-      let n = stations file in
-      let row = mendedRow (withRecord file (suc k) r) (referenceAt file (suc k)) (suc k) sheet in
       let e : suc i - 1 ≡ i = omega arith in
-      rw (mended file sheet (suc k) r accepted, e)
-      (row-back 2 row n (mended-wide (withRecord file (suc k) r) (referenceAt file (suc k)) (suc k) sheet n room) i (trailer n (headIn sheet n) (rows row n)) h ∙ rw (w, e))
+      rw (ended, e) (row-back rowWidth mendedTo (stations file) wide i _ h ∙ rw (w, e))
 
   -- keeps the header's code,
   pub kept-head : headIn (replacedSheet file sheet (suc k) r) (stations file) ≡ headIn sheet (stations file)
-  unfolding headIn mendedSheet withTrailer trailer
-  kept-head =
-      let n = stations file in
-      let row = mendedRow (withRecord file (suc k) r) (referenceAt file (suc k)) (suc k) sheet in
-      let t = trailer n (getD sheet (2 * n + 3) 0) (rows row n) in
-      rw (mended file sheet (suc k) r accepted)
-      (ap (λ (m : ℕ). getD (rows row n ++ t) (m + 3) 0) (sym (length-rows 2 row n (mended-wide (withRecord file (suc k) r) (referenceAt file (suc k)) (suc k) sheet n room)))
-      ∙ getD-append-add (rows row n) t 3 0)
+  kept-head = rw ended (head-back form (stations file) (headIn sheet (stations file)) (rows mendedTo (stations file)) standing-size)
+
+  -- says the lowest bad row and the number of bad rows that then stand,
+  pub new-lowest : lowestIn (replacedSheet file sheet (suc k) r) (stations file) ≡ first (bad (replacedSheet file sheet (suc k) r)) (stations file)
+  new-lowest = rw ended (lowest-whole form (stations file) (headIn sheet (stations file)) (rows mendedTo (stations file)) standing-size (omega arith))
+
+  pub new-found : foundIn (replacedSheet file sheet (suc k) r) (stations file) ≡ count (bad (replacedSheet file sheet (suc k) r)) (stations file)
+  new-found = rw ended (found-whole form (stations file) (headIn sheet (stations file)) (rows mendedTo (stations file)) standing-size (omega arith))
 
   -- and answers how many rows it wrote.
   pub written-rows : replacedRows file sheet (suc k) r ≡ length (those written (stations file))
@@ -98,13 +120,13 @@ module _ (file sheet : List ℕ) (k : ℕ) (r : List ℕ) (accepted : done (repl
 
 -- A header writes no row.
 module _ (file sheet r : List ℕ) (accepted : done (replaceOutcome file sheet 0 r) ≡ true) where
-  pub header-keeps-rows : take (2 * stations file) (replacedSheet file sheet 0 r) ≡ take (2 * stations file) sheet
-  unfolding mendedSheet withTrailer
+  pub header-keeps-rows : take (rowWidth * stations file) (replacedSheet file sheet 0 r) ≡ take (rowWidth * stations file) sheet
+  unfolding mendedSheet
   header-keeps-rows =
       let n = stations file in
       let may = allowed file sheet 0 r accepted in
-      let wide : length (take (2 * n) sheet) ≡ 2 * n = length-take-le (2 * n) sheet (omega (arith, may .sizes .sheet-size)) in
-      rw (mended file sheet 0 r accepted) (take-at (take (2 * n) sheet) _ (2 * n) wide)
+      let wide : length (take (rowWidth * n) sheet) ≡ rowWidth * n = length-take-le (rowWidth * n) sheet (omega (arith, may .sizes .sheet-size)) in
+      rw (mended file sheet 0 r accepted) (rows-back form n (filedHeaderCode r n) (take (rowWidth * n) sheet) wide)
 
   pub header-writes-none : replacedRows file sheet 0 r ≡ 0
   unfolding replacedRows ifDone rowsWritten

@@ -2,8 +2,11 @@ pub mod CountLaws
 pub mod RowLaws
 pub mod TwinLaws
 pub mod CodeLaws
+pub mod FormLaws
 pub mod SheetLaws
 pub mod RowsMended
+pub mod LocalLaws
+pub mod MendForm
 pub mod MendLaws
 pub mod CallLaws
 pub mod Demand3

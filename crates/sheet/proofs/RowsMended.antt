@@ -9,39 +9,40 @@ use lib.ListN.{length, take, drop, length-drop}
 use lib.Seq.{length-take-le}
 use Rattle.files.specs.Files.{withRecord}
 use Rattle.sheet.specs.Counting.{count, rows}
-use Rattle.sheet.specs.Sheets.{referenceAt, rowOf, rowIn, headIn, withTrailer}
+use Rattle.sheet.specs.Sheets.{rowWidth, referenceAt, rowOf, headIn, withTrailer}
+use Rattle.sheet.specs.Forms.{rowAt}
 use Rattle.sheet.specs.Replacing.{touched, mendedRow, mendedSheet, rowsWritten}
 use Rattle.sheet.proofs.RowLaws.{Wide, take-rows, row-put, row-kept}
 use Rattle.sheet.proofs.SheetLaws.{rows-wide}
 
 module _ (file old : List ℕ) (k : ℕ) (sheet : List ℕ) where
   -- The rows of a mended sheet have their width.
-  pub mended-wide : (n : ℕ) → 2 * n ≤ length sheet → Wide 2 (mendedRow file old k sheet) n
-  unfolding mendedRow rowIn
+  pub mended-wide : (n : ℕ) → rowWidth * n ≤ length sheet → Wide rowWidth (mendedRow file old k sheet) n
+  unfolding mendedRow rowAt
   mended-wide n room i h = by-case (touched file old k (suc i))
     where
-      by-case : (b : Bool) → length (cond b (rowOf file (suc i)) (take 2 (drop (2 * (suc i - 1)) sheet))) ≡ 2
+      by-case : (b : Bool) → length (cond b (rowOf file (suc i)) (take rowWidth (drop (rowWidth * (suc i - 1)) sheet))) ≡ rowWidth
       by-case true = rows-wide file n i h
-      by-case false = length-take-le 2 (drop (2 * (suc i - 1)) sheet) (rw length-drop (omega arith))
+      by-case false = length-take-le rowWidth (drop (rowWidth * (suc i - 1)) sheet) (rw length-drop (omega arith))
 
   -- a touched row has its value for the file
   mended-so : (j : ℕ) → touched file old k j ≡ true → mendedRow file old k sheet j ≡ rowOf file j
   unfolding mendedRow
   mended-so j hit = rw hit
 
-  module _ (i : ℕ) (room : 2 * i + 2 ≤ length sheet) where
+  module _ (i : ℕ) (room : rowWidth * i + rowWidth ≤ length sheet) where
     -- a row that is touched and written,
-    pub mended-hit : (now : List ℕ) → touched file old k (i + 1) ≡ true → now ≡ rows (mendedRow file old k sheet) i ++ drop (2 * i) sheet
-        → take (2 * i) now ++ (rowOf file (i + 1) ++ drop (2 * i + 2) now) ≡ rows (mendedRow file old k sheet) (i + 1) ++ drop (2 * (i + 1)) sheet
+    pub mended-hit : (now : List ℕ) → touched file old k (i + 1) ≡ true → now ≡ rows (mendedRow file old k sheet) i ++ drop (rowWidth * i) sheet
+        → take (rowWidth * i) now ++ (rowOf file (i + 1) ++ drop (rowWidth * i + rowWidth) now) ≡ rows (mendedRow file old k sheet) (i + 1) ++ drop (rowWidth * (i + 1)) sheet
     mended-hit now hit e =
-        ap (λ (t : List ℕ). take (2 * i) now ++ (t ++ drop (2 * i + 2) now)) (sym (mended-so (i + 1) hit))
-        ∙ row-put 2 (mendedRow file old k sheet) sheet i (mended-wide i (omega arith)) now e
+        ap (λ (t : List ℕ). take (rowWidth * i) now ++ (t ++ drop (rowWidth * i + rowWidth) now)) (sym (mended-so (i + 1) hit))
+        ∙ row-put rowWidth (mendedRow file old k sheet) sheet i (mended-wide i (omega arith)) now e
 
     -- and one that is not, and kept
     pub mended-miss : touched file old k (i + 1) ≡ false
-        → rows (mendedRow file old k sheet) i ++ drop (2 * i) sheet ≡ rows (mendedRow file old k sheet) (i + 1) ++ drop (2 * (i + 1)) sheet
-    unfolding mendedRow rowIn
-    mended-miss miss = let e : i + 1 - 1 ≡ i = omega arith in row-kept 2 (mendedRow file old k sheet) sheet i (rw (miss, e))
+        → rows (mendedRow file old k sheet) i ++ drop (rowWidth * i) sheet ≡ rows (mendedRow file old k sheet) (i + 1) ++ drop (rowWidth * (i + 1)) sheet
+    unfolding mendedRow rowAt
+    mended-miss miss = let e : i + 1 - 1 ≡ i = omega arith in row-kept rowWidth (mendedRow file old k sheet) sheet i (rw (miss, e))
 
 -- what holds of each successor holds of each number that is not 0
 by-suc : (P : ℕ → Type 0) → ((j : ℕ) → P (suc j)) → (k : ℕ) → 1 ≤ k → P k
@@ -65,7 +66,7 @@ module _ (file sheet : List ℕ) (k : ℕ) (r : List ℕ) (n : ℕ) where
     pub station-rows : count (touched file′ old k) n ≡ rowsWritten n file k r
     station-rows = rw (ef, eo) (sym (written-so h))
 
-    pub station-sheet : 2 * n ≤ length sheet → {sheet′ : List ℕ} → sheet′ ≡ rows (mendedRow file′ old k sheet) n ++ drop (2 * n) sheet
-        → withTrailer n (headIn sheet n) (take (2 * n) sheet′) ≡ mendedSheet n file sheet k r
+    pub station-sheet : rowWidth * n ≤ length sheet → {sheet′ : List ℕ} → sheet′ ≡ rows (mendedRow file′ old k sheet) n ++ drop (rowWidth * n) sheet
+        → withTrailer n (headIn sheet n) (take (rowWidth * n) sheet′) ≡ mendedSheet n file sheet k r
     station-sheet room es =
-        rw (es, take-rows 2 (mendedRow file′ old k sheet) n (mended-wide file′ old k sheet n room) (drop (2 * n) sheet), ef, eo) (sym (mended-station h))
+        rw (es, take-rows rowWidth (mendedRow file′ old k sheet) n (mended-wide file′ old k sheet n room) (drop (rowWidth * n) sheet), ef, eo) (sym (mended-station h))

@@ -1,4 +1,5 @@
 pub mod Counting
+pub mod Forms
 pub mod Sheets
 pub mod Replacing
 pub mod Calls

@@ -1,28 +1,38 @@
 -- Document 01, "The sheet": a row for each station and the trailer. What is said of rows holds for any width.
-use Prim.Native.Nat.{ℕ, _+_, _-_, _*_, _/_, _%_}
-use mathlib.Core.Bool.{Bool, not, _&&_}
-use mathlib.Core.List.{List, [], _∷_, _++_}
-use lib.ListN.{getD, take, drop}
-use lib.Dec.{eqb}
-use Rattle.columns.specs.Texts.{bytes, every, same}
+use Prim.Native.Nat.{ℕ, _+_, _-_, _*_}
+use mathlib.Core.Bool.{Bool}
+use mathlib.Core.List.{List, [], _∷_}
+use Rattle.columns.specs.Texts.{bytes, same}
 use Rattle.filing.specs.Fields.{at}
 use Rattle.station.specs.Places.{fieldsOf}
 use Rattle.station.specs.Codes.{stationCode}
 use Rattle.header.specs.Codes.{filedHeaderCode}
 use Rattle.files.specs.Files.{stations, recordAt}
-use Rattle.sheet.specs.Counting.{first, count, rows}
+use Rattle.sheet.specs.Counting.{first, rows}
+use Rattle.sheet.specs.Forms.{Form, trailerBytes, sheetBytes, rowBytes, numberIn, rowAt, badAt, closed, headAt, lowestAt, foundAt, fitsForm}
 
--- A row has two bytes,
+-- The form of sheets: a row is its code and m numbers of b bytes each.
+abbrev pub rowNumbers : ℕ
+rowNumbers = 1
+
+abbrev pub numberBytes : ℕ
+numberBytes = 1
+
+abbrev pub mark : List ℕ
+mark = bytes "2A"
+
+abbrev pub form : Form
+form = record { width = 1 + rowNumbers * numberBytes; bytes = numberBytes; mark = mark }
+
+-- The length of a row, of the trailer, and of a sheet of n stations.
 abbrev pub rowWidth : ℕ
-rowWidth = 2
+rowWidth = form .width
 
--- the trailer eight,
 abbrev pub trailerLength : ℕ
-trailerLength = 8
+trailerLength = trailerBytes form
 
--- and a sheet of n stations 2n + 8.
 abbrev pub sheetLength : ℕ → ℕ
-sheetLength n = rowWidth * n + trailerLength
+sheetLength n = sheetBytes form n
 
 -- Station k's code,
 unfoldable pub codeAt : List ℕ → ℕ → ℕ
@@ -38,28 +48,32 @@ twinAt file k = first (λ i. same (referenceAt file i) (referenceAt file k)) (k 
 
 -- Row k: station k's code, and its twin.
 unfoldable pub rowOf : List ℕ → ℕ → List ℕ
-rowOf file k = codeAt file k ∷ twinAt file k ∷ []
+rowOf file k = rowBytes form (codeAt file k) (twinAt file k ∷ [])
 
--- The row that stands for station k.
-unfoldable pub rowIn : List ℕ → ℕ → List ℕ
-rowIn sheet k = take rowWidth (drop (rowWidth * (k - 1)) sheet)
+-- In this form: the row that stands for station k, whether it is bad, the n rows that stand with their trailer, the header code in it, and whether it fits n rows.
+abbrev pub rowIn : List ℕ → ℕ → List ℕ
+rowIn sheet k = rowAt form sheet k
 
--- A row is bad if either byte is not 0.
-unfoldable pub bad : List ℕ → ℕ → Bool
-bad sheet k = not (every (λ c. eqb c 0) (rowIn sheet k))
+abbrev pub bad : List ℕ → ℕ → Bool
+bad sheet k = badAt form sheet k
 
--- The mark that ends a sheet.
-abbrev pub mark : List ℕ
-mark = bytes "2A"
+abbrev pub withTrailer : ℕ → ℕ → List ℕ → List ℕ
+withTrailer n head standing = closed form n head standing
 
--- The trailer of the n rows that stand: the distance from the sheet's end back to its first row, high byte first, width, header code, lowest bad row or 0, number of bad rows, mark.
-unfoldable pub trailer : ℕ → ℕ → List ℕ → List ℕ
-trailer n head standing =
-    sheetLength n / 256 ∷ sheetLength n % 256 ∷ rowWidth ∷ head ∷ first (bad standing) n ∷ count (bad standing) n ∷ mark
+abbrev pub headIn : List ℕ → ℕ → ℕ
+headIn sheet n = headAt form sheet n
 
--- The n rows that stand, and their trailer.
-unfoldable pub withTrailer : ℕ → ℕ → List ℕ → List ℕ
-withTrailer n head standing = standing ++ trailer n head standing
+abbrev pub lowestIn : List ℕ → ℕ → ℕ
+lowestIn sheet n = lowestAt form sheet n
+
+abbrev pub foundIn : List ℕ → ℕ → ℕ
+foundIn sheet n = foundAt form sheet n
+
+abbrev pub twinIn : List ℕ → ℕ → ℕ
+twinIn sheet k = numberIn form (rowIn sheet k) 0
+
+abbrev pub trailerFits : List ℕ → ℕ → Bool
+trailerFits sheet n = fitsForm form sheet n
 
 -- The sheet judged from a file of n stations,
 unfoldable pub judgedSheet : List ℕ → ℕ → List ℕ
@@ -68,13 +82,3 @@ judgedSheet file n = withTrailer n (filedHeaderCode (recordAt file 0) n) (rows (
 -- and from any file.
 unfoldable pub sheetOf : List ℕ → List ℕ
 sheetOf file = judgedSheet file (stations file)
-
--- The header code in the trailer of n rows.
-unfoldable pub headIn : List ℕ → ℕ → ℕ
-headIn sheet n = getD sheet (rowWidth * n + 3) 0
-
--- The trailer has the distance, the width and the mark of a sheet of n rows.
-unfoldable pub trailerFits : List ℕ → ℕ → Bool
-trailerFits sheet n =
-    let t = drop (rowWidth * n) sheet in
-    same (sheetLength n / 256 ∷ sheetLength n % 256 ∷ rowWidth ∷ []) (take 3 t) && same mark (drop 6 t)

@@ -1,4 +1,6 @@
 // Judging: the whole sheet of a file.
+use crate::rows::ROW_WIDTH;
+use crate::rows::TRAILER_LENGTH;
 use crate::rows::put_row;
 use crate::trailers::put_trailer;
 use files::lengths::check_file;
@@ -14,13 +16,14 @@ ghost use Prim.Native.Nat.{_*_};
 ghost use lib.ListN.{length, drop};
 ghost use Rattle.header.specs.Codes.{filedHeaderCode};
 ghost use Rattle.sheet.specs.Counting.{rows};
-ghost use Rattle.sheet.specs.Sheets.{rowOf, judgedSheet};
+ghost use Rattle.sheet.specs.Sheets.{rowOf, judgedSheet, rowWidth};
 ghost use Rattle.sheet.specs.Calls.{judgeOutcome};
 ghost use Rattle.sheet.specs.Promises.{SheetJudged, Sized};
+ghost use Rattle.filing.specs.Fields.{recordLength};
 
 // The code of a header in a file of n stations.
 pub(crate) fn header_code(rec: &[u8], n: usize) -> u8
-    requires { ⌜ length (now rec) ≡ 219 ⌝ }
+    requires { ⌜ length (now rec) ≡ recordLength ⌝ }
     ensures { λ r. ⌜ r ≡ filedHeaderCode (now (rec .entry)) n ⌝ }
 {
     code_with(check_filed_header(rec, n))
@@ -29,7 +32,7 @@ pub(crate) fn header_code(rec: &[u8], n: usize) -> u8
 // Writes the rows of all n stations.
 fn put_rows(file: &[u8], sheet: &mut [u8], n: usize)
     requires { ⌜ Sized (now file) (now sheet) n ⌝ }
-    ensures { λ _. ⌜ now (sheet .exit) ≡ rows (rowOf (now (file .entry))) n ++ drop (2 * n) (now (sheet .entry)) ⌝ }
+    ensures { λ _. ⌜ now (sheet .exit) ≡ rows (rowOf (now (file .entry))) n ++ drop (rowWidth * n) (now (sheet .entry)) ⌝ }
 {
     let mut i = 0;
     while i < n {
@@ -57,7 +60,7 @@ pub(crate) fn judge_outcome(file: &[u8], sheet: &[u8]) -> Outcome
         return length;
     }
     let n = stations_in(file);
-    if sheet.len() != 2 * n + 8 {
+    if sheet.len() != ROW_WIDTH * n + TRAILER_LENGTH {
         return Outcome::SheetLength;
     }
     Outcome::Done

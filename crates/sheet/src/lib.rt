@@ -1,7 +1,8 @@
 // Verdict sheets: judged from a file, and mended when a record is replaced.
 
 pub mod judging;
+pub mod readers;
 pub mod replacing;
-mod rows;
+pub mod rows;
 mod trailers;
 mod twins;

@@ -1,6 +1,8 @@
 // Replacing a record, and mending the sheet.
 use crate::judging::header_code;
 use crate::judging::judge_outcome;
+use crate::rows::HEAD_PLACE;
+use crate::rows::ROW_WIDTH;
 use crate::rows::put_row;
 use crate::trailers::fits_trailer;
 use crate::trailers::put_trailer;
@@ -18,6 +20,8 @@ ghost use Rattle.sheet.specs.Counting.{rows, count};
 ghost use Rattle.sheet.specs.Replacing.{touched, mendedRow, mendedSheet, rowsWritten};
 ghost use Rattle.sheet.specs.Calls.{replaceOutcome};
 ghost use Rattle.sheet.specs.Promises.{RecordReplaced, StillJudged, Sized};
+ghost use Rattle.filing.specs.Fields.{recordLength};
+ghost use Rattle.sheet.specs.Sheets.{rowWidth};
 
 // How a replacement ended, and how many rows it wrote.
 pub struct Replaced {
@@ -27,7 +31,7 @@ pub struct Replaced {
 
 // Whether row j is written: it is row k, or a later one that bears the old or the new 13X of k.
 fn touches(file: &[u8], old: &[u8], k: usize, j: usize) -> bool
-    requires { ⌜ (219 * k + 219 ≤ length (now file)) × (219 * j + 219 ≤ length (now file)) ⌝ }
+    requires { ⌜ (recordLength * k + recordLength ≤ length (now file)) × (recordLength * j + recordLength ≤ length (now file)) ⌝ }
     ensures { λ r. ⌜ r ≡ touched (now (file .entry)) (now (old .entry)) k j ⌝ }
 {
     if k > j {
@@ -45,7 +49,7 @@ fn mend_rows(file: &[u8], sheet: &mut [u8], n: usize, k: usize, old: &[u8]) -> u
     requires { ⌜ Sized (now file) (now sheet) n ⌝ }
     requires { ⌜ k ≤ n ⌝ }
     ensures { λ r. ⌜ r ≡ count (touched (now (file .entry)) (now (old .entry)) k) n ⌝ }
-    ensures { λ _. ⌜ now (sheet .exit) ≡ rows (mendedRow (now (file .entry)) (now (old .entry)) k (now (sheet .entry))) n ++ drop (2 * n) (now (sheet .entry)) ⌝ }
+    ensures { λ _. ⌜ now (sheet .exit) ≡ rows (mendedRow (now (file .entry)) (now (old .entry)) k (now (sheet .entry))) n ++ drop (rowWidth * n) (now (sheet .entry)) ⌝ }
 {
     let mut written: usize = 0;
     let mut i = 0;
@@ -62,7 +66,7 @@ fn mend_rows(file: &[u8], sheet: &mut [u8], n: usize, k: usize, old: &[u8]) -> u
 
 // Puts a record in the place of record k.
 fn put_record(file: &mut [u8], k: usize, rec: &[u8])
-    requires { ⌜ (219 * k + 219 ≤ length (now file)) × (length (now rec) ≡ 219) ⌝ }
+    requires { ⌜ (recordLength * k + recordLength ≤ length (now file)) × (length (now rec) ≡ recordLength) ⌝ }
     ensures { λ _. ⌜ now (file .exit) ≡ withRecord (now (file .entry)) k (now (rec .entry)) ⌝ }
 {
     let start = 219 * k;
@@ -73,7 +77,7 @@ fn put_record(file: &mut [u8], k: usize, rec: &[u8])
 // Puts in a header, and judges its code anew; no row is written.
 fn replace_header(file: &mut [u8], sheet: &mut [u8], n: usize, rec: &[u8])
     requires { ⌜ Sized (now file) (now sheet) n ⌝ }
-    requires { ⌜ length (now rec) ≡ 219 ⌝ }
+    requires { ⌜ length (now rec) ≡ recordLength ⌝ }
     ensures { λ _. ⌜ now (file .exit) ≡ withRecord (now (file .entry)) 0 (now (rec .entry)) ⌝ }
     ensures { λ _. ⌜ now (sheet .exit) ≡ mendedSheet n (now (file .entry)) (now (sheet .entry)) 0 (now (rec .entry)) ⌝ }
 {
@@ -85,14 +89,14 @@ fn replace_header(file: &mut [u8], sheet: &mut [u8], n: usize, rec: &[u8])
 // Puts in station k, mends the rows that it touches, and answers how many; the header's code is kept.
 fn replace_station(file: &mut [u8], sheet: &mut [u8], n: usize, k: usize, rec: &[u8]) -> usize
     requires { ⌜ Sized (now file) (now sheet) n ⌝ }
-    requires { ⌜ (1 ≤ k) × (k ≤ n) × (length (now rec) ≡ 219) ⌝ }
+    requires { ⌜ (1 ≤ k) × (k ≤ n) × (length (now rec) ≡ recordLength) ⌝ }
     ensures { λ r. ⌜ r ≡ rowsWritten n (now (file .entry)) k (now (rec .entry)) ⌝ }
     ensures { λ _. ⌜ now (file .exit) ≡ withRecord (now (file .entry)) k (now (rec .entry)) ⌝ }
     ensures { λ _. ⌜ now (sheet .exit) ≡ mendedSheet n (now (file .entry)) (now (sheet .entry)) k (now (rec .entry)) ⌝ }
 {
     let mut old = [0u8; 15];
     bytes::copy(reference(file, k), &mut old);
-    let at = 2 * n + 3;
+    let at = ROW_WIDTH * n + HEAD_PLACE;
     let head = sheet[at];
     put_record(file, k, rec);
     let written = mend_rows(file, sheet, n, k, &old);

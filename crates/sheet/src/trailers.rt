@@ -1,15 +1,21 @@
 // The trailer: what a sheet says of itself, its header, and the rows that stand.
+use crate::rows::HEAD_PLACE;
+use crate::rows::MARK_PLACE;
+use crate::rows::ROW_WIDTH;
+use crate::rows::TRAILER_LENGTH;
+use crate::rows::WIDTH_BYTE;
 use crate::rows::is_bad;
 use columns::texts::equal;
 ghost use mathlib.Core.Path.{_≡_};
 ghost use Prim.Native.Nat.{_+_, _*_, _≤_};
 ghost use lib.ListN.{length, take};
 ghost use Rattle.sheet.specs.Counting.{first, count};
-ghost use Rattle.sheet.specs.Sheets.{bad, withTrailer, trailerFits};
+ghost use Rattle.sheet.specs.Sheets.{bad, withTrailer, trailerFits, rowWidth, sheetLength};
+ghost use Rattle.files.specs.Files.{mostStations};
 
 // The lowest of n rows that is bad, or 0.
 fn lowest_bad(sheet: &[u8], n: usize) -> u8
-    requires { ⌜ (n ≤ 250) × (2 * n ≤ length (now sheet)) ⌝ }
+    requires { ⌜ (n ≤ mostStations) × (rowWidth * n ≤ length (now sheet)) ⌝ }
     ensures { λ r. ⌜ r ≡ first (bad (now (sheet .entry))) n ⌝ }
 {
     let mut i = 0;
@@ -25,7 +31,7 @@ fn lowest_bad(sheet: &[u8], n: usize) -> u8
 
 // How many of n rows are bad.
 fn bad_rows(sheet: &[u8], n: usize) -> u8
-    requires { ⌜ (n ≤ 250) × (2 * n ≤ length (now sheet)) ⌝ }
+    requires { ⌜ (n ≤ mostStations) × (rowWidth * n ≤ length (now sheet)) ⌝ }
     ensures { λ r. ⌜ r ≡ count (bad (now (sheet .entry))) n ⌝ }
 {
     let mut found: u8 = 0;
@@ -41,17 +47,17 @@ fn bad_rows(sheet: &[u8], n: usize) -> u8
 
 // Writes the trailer of the n rows that stand, with the header's code, behind them.
 pub(crate) fn put_trailer(sheet: &mut [u8], n: usize, head: u8)
-    requires { ⌜ (n ≤ 250) × (length (now sheet) ≡ 2 * n + 8) ⌝ }
-    ensures { λ _. ⌜ now (sheet .exit) ≡ withTrailer n head (take (2 * n) (now (sheet .entry))) ⌝ }
+    requires { ⌜ (n ≤ mostStations) × (length (now sheet) ≡ sheetLength n) ⌝ }
+    ensures { λ _. ⌜ now (sheet .exit) ≡ withTrailer n head (take (rowWidth * n) (now (sheet .entry))) ⌝ }
 {
-    let end = 2 * n;
-    let distance = end + 8;
+    let end = ROW_WIDTH * n;
+    let distance = end + TRAILER_LENGTH;
     let lowest = lowest_bad(&sheet[..end], n);
     let found = bad_rows(&sheet[..end], n);
     let trailer = [
         (distance / 256) as u8,
         (distance % 256) as u8,
-        2,
+        WIDTH_BYTE,
         head,
         lowest,
         found,
@@ -63,14 +69,14 @@ pub(crate) fn put_trailer(sheet: &mut [u8], n: usize, head: u8)
 
 // Whether the trailer has the distance, the width and the mark of a sheet of n rows.
 pub(crate) fn fits_trailer(sheet: &[u8], n: usize) -> bool
-    requires { ⌜ (n ≤ 250) × (length (now sheet) ≡ 2 * n + 8) ⌝ }
+    requires { ⌜ (n ≤ mostStations) × (length (now sheet) ≡ sheetLength n) ⌝ }
     ensures { λ r. ⌜ r ≡ trailerFits (now (sheet .entry)) n ⌝ }
 {
-    let end = 2 * n;
-    let distance = end + 8;
-    let shape = [(distance / 256) as u8, (distance % 256) as u8, 2];
-    let mark = end + 6;
-    let code = end + 3;
+    let end = ROW_WIDTH * n;
+    let distance = end + TRAILER_LENGTH;
+    let shape = [(distance / 256) as u8, (distance % 256) as u8, WIDTH_BYTE];
+    let mark = end + MARK_PLACE;
+    let code = end + HEAD_PLACE;
     if !equal(&shape, &sheet[end..code]) {
         return false;
     }

@@ -1,9 +1,9 @@
 -- `report::reports::put_file` meets its contract: there is room for the sheet of so many stations. Assumes nothing.
 use denote.Ref.{now}
 use mathlib.Core.Path.{sym}
-use Prim.Native.Nat.{_+_, _*_}
 use lib.Seq.{length-take-le}
 use Rattle.report.proofs.ReportLaws.{few}
+use Rattle.sheet.specs.Sheets.{sheetLength}
 use native.Mathlib.Omega.{arith}
 use borrow.Author.Needs.{needs}
 use Rattle.report.proofs.reports.put_file.Statement.{statement}
@@ -27,12 +27,12 @@ array-borrow-prefix-space c = omega (arith, few (now (c .before .before .before 
 slice-aggregate-put-judged : tie.Need-slice-aggregate-put-judged
 slice-aggregate-put-judged c =
     let most = few (now (c .before .before .before .before .before .before .args .file)) (c .before .before .before .before .before .before .pre .1) (c .before .before .before .stations-in .ensures) in
-    sym (length-take-le (2 * c .before .before .before .stations-in .result + 8) (c .before .before .sheet-space .result) (omega (arith, most, c .before .before .sheet-space .ensures)))
+    sym (length-take-le (sheetLength (c .before .before .before .stations-in .result)) (c .before .before .sheet-space .result) (omega (arith, most, c .before .before .sheet-space .ensures)))
 
 put-judged-requires : tie.Need-put-judged-requires
 put-judged-requires c κs =
     let most = few (now (c .before .before .before .before .before .before .args .file)) (c .before .before .before .before .before .before .pre .1) (c .before .before .before .stations-in .ensures) in
-    let room = length-take-le (2 * c .before .before .before .stations-in .result + 8) (c .before .before .sheet-space .result) (omega (arith, most, c .before .before .sheet-space .ensures)) in
+    let room = length-take-le (sheetLength (c .before .before .before .stations-in .result)) (c .before .before .sheet-space .result) (omega (arith, most, c .before .before .sheet-space .ensures)) in
     ((c .before .before .before .stations-in .ensures, room, search needs), c .before .before .before .before .before .before .pre .1)
 
 same-length : tie.Need-same-length

@@ -5,7 +5,6 @@ use mathlib.Core.Bool.{true, false}
 use Prim.Native.Nat.{_+_}
 use borrow.Author.Tests.{not-true, not-false}
 use Rattle.sheet.specs.Sheets.{bad}
-use Rattle.sheet.proofs.SheetLaws.{bad-bytes}
 use Rattle.report.proofs.AppendLaws.{none}
 use Rattle.report.proofs.LineLaws.{good-row, bad-row}
 use native.Mathlib.Omega.{arith}
@@ -13,27 +12,21 @@ use borrow.Author.Needs.{needs}
 use Rattle.report.proofs.reports.put_row.Statement.{statement}
 use Rattle.report.proofs.reports.put_row.Tie as tie
 
-mul-at : tie.Need-mul-at
-mul-at c = search needs
-
-shared-slice-read-code : tie.Need-shared-slice-read-code
-shared-slice-read-code c = search needs
-
-add-twin : tie.Need-add-twin
-add-twin c = search needs
-
-shared-slice-read-twin : tie.Need-shared-slice-read-twin
-shared-slice-read-twin c = search needs
-
 is-bad-requires : tie.Need-is-bad-requires
 is-bad-requires c κs = search needs
 
 returns : tie.Need-returns
 returns c =
-    let a = c .before .before .before .before .before .before .args in
+    let a = c .before .before .before .before .args in
     let s = now (a .sheet) in
-    let good : bad s (a .i + 1) ≡ false = bad-bytes s (a .i) (c .before .before .before .before .before .before .pre .1 .1) ∙ sym (c .before .is-bad .ensures) ∙ not-true _ (c .if1 .taken) in
+    let good : bad s (a .i + 1) ≡ false = sym (c .before .is-bad .ensures) ∙ not-true _ (c .if1 .taken) in
     (rw (good-row s (a .i) good) (none (now (a .out)) (a .start) (omega arith)), search needs)
+
+row-code-requires : tie.Need-row-code-requires
+row-code-requires c κs = search needs
+
+row-twin-requires : tie.Need-row-twin-requires
+row-twin-requires c κs = search needs
 
 add-k : tie.Need-add-k
 add-k c = search needs
@@ -51,19 +44,17 @@ returns-2 : tie.Need-returns-2
 returns-2 c =
     let a = c .before .before .before .before .before .before .before .before .before .before .args in
     let s = now (a .sheet) in
-    let broken : bad s (a .i + 1) ≡ true = bad-bytes s (a .i) (c .before .before .before .before .before .before .before .before .before .before .pre .1 .1) ∙ sym (c .before .before .before .before .before .is-bad .ensures) ∙ not-false _ (c .before .before .before .before .if1 .left) in
-    (rw (bad-row s (a .i) broken) (c .before .before .put-station .ensures .0), search needs)
+    let broken : bad s (a .i + 1) ≡ true = sym (c .before .before .before .before .before .before .before .is-bad .ensures) ∙ not-false _ (c .before .before .before .before .before .before .if1 .left) in
+    (rw (bad-row s (a .i) broken (c .before .before .before .before .before .row-code .ensures) (c .before .before .before .before .row-twin .ensures)) (c .before .before .put-station .ensures .0), search needs)
 
 pub put-row-spec : {M : Type 1} → statement M
 put-row-spec =
     tie.close
     (tie.spec
-    mul-at
-    shared-slice-read-code
-    add-twin
-    shared-slice-read-twin
     is-bad-requires
     returns
+    row-code-requires
+    row-twin-requires
     add-k
     cast-put-station
     put-station-requires

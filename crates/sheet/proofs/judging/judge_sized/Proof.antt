@@ -7,7 +7,7 @@ use lib.ListN.{length, drop}
 use Rattle.header.specs.Codes.{filedHeaderCode}
 use Rattle.files.specs.Files.{recordAt}
 use Rattle.files.proofs.FileLaws.{record-wide}
-use Rattle.sheet.specs.Sheets.{rowOf, judgedSheet}
+use Rattle.sheet.specs.Sheets.{rowOf, judgedSheet, rowWidth}
 use Rattle.sheet.proofs.RowLaws.{take-rows}
 use Rattle.sheet.proofs.SheetLaws.{rows-wide}
 use native.Mathlib.Omega.{arith}
@@ -38,7 +38,7 @@ returns c =
     let head : c .before .before .before .before .header-code .result ≡ filedHeaderCode (recordAt file 0) (a .n) =
     c .before .before .before .before .header-code .ensures ∙ ap (λ (r : List ℕ). filedHeaderCode r (a .n)) (c .before .before .before .before .before .record-in .ensures .0) in
     c .before .before .put-trailer .ensures
-    ∙ rw (c .before .before .before .before .before .before .before .before .put-rows .ensures, head, take-rows 2 (rowOf file) (a .n) (rows-wide file (a .n)) (drop (2 * a .n) (now (a .sheet))))
+    ∙ rw (c .before .before .before .before .before .before .before .before .put-rows .ensures, head, take-rows rowWidth (rowOf file) (a .n) (rows-wide file (a .n)) (drop (rowWidth * a .n) (now (a .sheet))))
 
 pub judge-sized-spec : {M : Type 1} → statement M
 judge-sized-spec =

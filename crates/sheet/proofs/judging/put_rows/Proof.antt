@@ -5,7 +5,7 @@ use mathlib.Core.List.{_++_}
 use Prim.Native.Nat.{_+_, _-_, _*_, _≤_}
 use lib.ListN.{length, drop}
 use Rattle.sheet.specs.Counting.{rows}
-use Rattle.sheet.specs.Sheets.{rowOf}
+use Rattle.sheet.specs.Sheets.{rowOf, rowWidth}
 use Rattle.sheet.proofs.RowLaws.{row-put}
 use Rattle.sheet.proofs.SheetLaws.{rows-wide}
 use native.Mathlib.Omega.{arith}
@@ -14,7 +14,7 @@ use Rattle.sheet.proofs.judging.put_rows.Statement.{statement}
 use Rattle.sheet.proofs.judging.put_rows.Tie as tie
 
 abbrev Inv-loop : tie.InvT-loop
-Inv-loop file sheet₀ n i₀ sheet i = (i ≤ n) × (length sheet ≡ length sheet₀) × (sheet ≡ rows (rowOf file) i ++ drop (2 * i) sheet₀)
+Inv-loop file sheet₀ n i₀ sheet i = (i ≤ n) × (length sheet ≡ length sheet₀) × (sheet ≡ rows (rowOf file) i ++ drop (rowWidth * i) sheet₀)
 
 abbrev μ-loop : tie.MeasureT-loop
 μ-loop file sheet₀ n i₀ sheet i = n - i
@@ -36,7 +36,7 @@ loop-again c =
     let at-loop = c .before .before .before .before .before in
     let a = c .before .before .before .before .before .before .before .before .args in
     let file = now (a .file) in
-    (search needs, search needs, c .before .before .put-row .ensures ∙ row-put 2 (rowOf file) (now (a .sheet)) (at-loop .loop .i) (rows-wide file (at-loop .loop .i)) _ (at-loop .loop .inv .2))
+    (search needs, search needs, c .before .before .put-row .ensures ∙ row-put rowWidth (rowOf file) (now (a .sheet)) (at-loop .loop .i) (rows-wide file (at-loop .loop .i)) _ (at-loop .loop .inv .2))
 
 same-length : tie.Need-same-length Inv-loop μ-loop
 same-length c = search needs

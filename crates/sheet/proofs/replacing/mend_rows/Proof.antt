@@ -10,13 +10,14 @@ use Rattle.sheet.specs.Replacing.{touched, mendedRow}
 use Rattle.sheet.proofs.CountLaws.{count-hit, count-miss}
 use Rattle.sheet.proofs.RowsMended.{mended-hit, mended-miss}
 use native.Mathlib.Omega.{arith}
+use Rattle.sheet.specs.Sheets.{rowWidth}
 use borrow.Author.Needs.{needs}
 use Rattle.sheet.proofs.replacing.mend_rows.Statement.{statement}
 use Rattle.sheet.proofs.replacing.mend_rows.Tie as tie
 
 abbrev Inv-loop : tie.InvT-loop
 Inv-loop file sheet₀ n k old written₀ i₀ sheet written i =
-    (i ≤ n) × (length sheet ≡ length sheet₀) × (sheet ≡ rows (mendedRow file old k sheet₀) i ++ drop (2 * i) sheet₀)
+    (i ≤ n) × (length sheet ≡ length sheet₀) × (sheet ≡ rows (mendedRow file old k sheet₀) i ++ drop (rowWidth * i) sheet₀)
     × (written ≤ i) × (written ≡ count (touched file old k) i)
 
 abbrev μ-loop : tie.MeasureT-loop

@@ -3,7 +3,7 @@ use mathlib.Core.Path.{ap, _∙_}
 use denote.Ref.{now}
 use lib.ListN.{take}
 use Prim.Native.Nat.{ℕ, _*_}
-use Rattle.sheet.specs.Sheets.{withTrailer}
+use Rattle.sheet.specs.Sheets.{withTrailer, rowWidth}
 use Rattle.sheet.specs.Replacing.{mendedSheet}
 use borrow.Author.Needs.{needs}
 use Rattle.sheet.proofs.replacing.replace_header.Statement.{statement}
@@ -28,7 +28,7 @@ returns : tie.Need-returns
 unfolding mendedSheet
 returns c =
     let a = c .before .before .before .before .before .before .before .before .before .before .before .before .args in
-    (c .before .before .before .before .before .before .put-record .ensures, c .before .before .put-trailer .ensures ∙ ap (λ (head : ℕ). withTrailer (a .n) head (take (2 * a .n) (now (a .sheet)))) (c .before .before .before .before .before .before .before .before .header-code .ensures))
+    (c .before .before .before .before .before .before .put-record .ensures, c .before .before .put-trailer .ensures ∙ ap (λ (head : ℕ). withTrailer (a .n) head (take (rowWidth * a .n) (now (a .sheet)))) (c .before .before .before .before .before .before .before .before .header-code .ensures))
 
 pub replace-header-spec : {M : Type 1} → statement M
 replace-header-spec =

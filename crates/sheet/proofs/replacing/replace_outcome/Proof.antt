@@ -8,6 +8,7 @@ use Rattle.files.proofs.LengthLaws.{done, went-on, stopped}
 use Rattle.sheet.specs.Calls.{judgeOutcome, replaceOutcome}
 use Rattle.sheet.proofs.CallLaws.{sheet-refused, judge-sized-up, trailer-refused, trailer-passed}
 use native.Mathlib.Omega.{arith}
+use Rattle.sheet.specs.Sheets.{sheetLength}
 use borrow.Author.Needs.{needs}
 use Rattle.sheet.proofs.replacing.replace_outcome.Statement.{statement}
 use Rattle.sheet.proofs.replacing.replace_outcome.Tie as tie
@@ -36,7 +37,7 @@ fits-trailer-requires c κs =
     let yes : done (judgeOutcome file sheet) ≡ true = went-on (c .before .before .before .judge-outcome .ensures) (c .before .before .is-done .ensures) (c .before .if1 .left) in
     let h = judge-sized-up file sheet yes in
     let n = c .stations-in .ensures in
-    (omega (arith, h .most, n), h .sheet-size ∙ ap (λ (m : ℕ). 2 * m + 8) (sym n))
+    (omega (arith, h .most, n), h .sheet-size ∙ ap sheetLength (sym n))
 
 returns-2 : tie.Need-returns-2
 returns-2 c =

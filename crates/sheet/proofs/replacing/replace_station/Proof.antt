@@ -4,7 +4,8 @@ use mathlib.Core.Path.{_≡_, sym, ap, _∙_}
 use Prim.Native.Nat.{_≤_}
 use native.Mathlib.Nat.{le-of-eq}
 use lib.ListN.{length}
-use Rattle.sheet.specs.Sheets.{referenceAt, headIn}
+use Rattle.sheet.specs.Sheets.{referenceAt}
+use Rattle.sheet.specs.Forms.{headAt}
 use Rattle.sheet.proofs.SheetLaws.{copy-all}
 use Rattle.sheet.proofs.TwinLaws.{reference-wide}
 use Rattle.sheet.proofs.RowsMended.{station-rows, station-sheet}
@@ -50,7 +51,7 @@ same-length-2 : tie.Need-same-length-2
 same-length-2 c = search needs
 
 returns : tie.Need-returns
-unfolding headIn
+unfolding headAt
 returns c =
     let start = c .before .before .before .before .before .before .before .before .before .before .before .before .before .before .before .before .before .before .before .before .before .before .before in
     let a = start .args in

@@ -4,6 +4,7 @@ use mathlib.Core.Path.{_≡_}
 use Prim.Native.Nat.{_+_, _*_, _-_}
 use lib.Seq.{drop-drop}
 use native.Mathlib.Omega.{arith}
+use Rattle.sheet.specs.Sheets.{rowWidth}
 use borrow.Author.Needs.{needs}
 use Rattle.sheet.proofs.rows.put_row.Statement.{statement}
 use Rattle.sheet.proofs.rows.put_row.Tie as tie
@@ -35,8 +36,8 @@ same-length c = search needs
 returns : tie.Need-returns
 returns c =
     let a = c .before .before .before .before .before .before .args in
-    let e : 2 * a .i + 2 - 2 * a .i ≡ 2 = omega arith in
-    rw (c .before .before .put-bytes .ensures, e, drop-drop 2 (2 * a .i) (now (a .sheet)))
+    let e : rowWidth * a .i + rowWidth - rowWidth * a .i ≡ rowWidth = omega arith in
+    rw (c .before .before .put-bytes .ensures, e, drop-drop rowWidth (rowWidth * a .i) (now (a .sheet)))
 
 pub put-row-spec : {M : Type 1} → statement M
 put-row-spec =

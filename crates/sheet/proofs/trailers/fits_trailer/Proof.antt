@@ -2,15 +2,16 @@
 use denote.Ref.{now}
 use mathlib.Core.Path.{_≡_, sym, ap, _∙_}
 use mathlib.Core.Bool.{true, false}
-use mathlib.Core.List.{List, _∷_, []}
-use Prim.Native.Nat.{ℕ, _+_, _*_, _/_, _%_}
+use mathlib.Core.List.{List}
+use Prim.Native.Nat.{ℕ, _+_, _*_}
 use native.Mathlib.Nat.{add-sub-cancel-left}
 use lib.ListN.{take, drop}
 use borrow.Author.Tests.{not-true, not-false}
 use Rattle.columns.specs.Texts.{same}
 use Rattle.columns.proofs.TextLaws.{from-on}
-use Rattle.sheet.specs.Sheets.{mark}
-use Rattle.sheet.proofs.SheetLaws.{trailer-parts}
+use Rattle.sheet.specs.Sheets.{form, mark, rowWidth, numberBytes}
+use Rattle.sheet.proofs.FormLaws.{form-parts}
+use Rattle.sheet.specs.Forms.{shape}
 use borrow.Author.Needs.{needs}
 use Rattle.sheet.proofs.trailers.fits_trailer.Statement.{statement}
 use Rattle.sheet.proofs.trailers.fits_trailer.Tie as tie
@@ -51,10 +52,10 @@ equal-requires c κs = search needs
 returns : tie.Need-returns
 returns c =
     let a = c .before .before .before .before .before .args in
-    let shape = (2 * a .n + 8) / 256 ∷ (2 * a .n + 8) % 256 ∷ 2 ∷ [] in
-    let no : same shape (take 3 (drop (2 * a .n) (now (a .sheet)))) ≡ false =
-    ap (λ (m : ℕ). same shape (take m (drop (2 * a .n) (now (a .sheet))))) (sym (add-sub-cancel-left (2 * a .n) 3)) ∙ sym (c .before .equal .ensures) ∙ not-true _ (c .if1 .taken) in
-    rw (trailer-parts (now (a .sheet)) (a .n), no)
+    let own = shape form (a .n) in
+    let no : same own (take 3 (drop (rowWidth * a .n) (now (a .sheet)))) ≡ false =
+    ap (λ (m : ℕ). same own (take m (drop (rowWidth * a .n) (now (a .sheet))))) (sym (add-sub-cancel-left (rowWidth * a .n) 3)) ∙ sym (c .before .equal .ensures) ∙ not-true _ (c .if1 .taken) in
+    rw (form-parts form (now (a .sheet)) (a .n), no)
 
 slice-aggregate-equal-2 : tie.Need-slice-aggregate-equal-2
 slice-aggregate-equal-2 c = search needs
@@ -74,10 +75,10 @@ equal-requires-2 c κs = search needs
 returns-2 : tie.Need-returns-2
 returns-2 c =
     let a = c .before .before .before .before .before .before .before .before .args in
-    let shape = (2 * a .n + 8) / 256 ∷ (2 * a .n + 8) % 256 ∷ 2 ∷ [] in
-    let yes : same shape (take 3 (drop (2 * a .n) (now (a .sheet)))) ≡ true =
-    ap (λ (m : ℕ). same shape (take m (drop (2 * a .n) (now (a .sheet))))) (sym (add-sub-cancel-left (2 * a .n) 3)) ∙ sym (c .before .before .before .before .equal .ensures) ∙ not-false _ (c .before .before .before .if1 .left) in
-    c .equal2 .ensures ∙ rw (trailer-parts (now (a .sheet)) (a .n), yes) (ap (λ (t : List ℕ). same mark t) (from-on (now (a .sheet)) (2 * a .n + 6)))
+    let own = shape form (a .n) in
+    let yes : same own (take 3 (drop (rowWidth * a .n) (now (a .sheet)))) ≡ true =
+    ap (λ (m : ℕ). same own (take m (drop (rowWidth * a .n) (now (a .sheet))))) (sym (add-sub-cancel-left (rowWidth * a .n) 3)) ∙ sym (c .before .before .before .before .equal .ensures) ∙ not-false _ (c .before .before .before .if1 .left) in
+    c .equal2 .ensures ∙ rw (form-parts form (now (a .sheet)) (a .n), yes) (ap (λ (t : List ℕ). same mark t) (from-on (now (a .sheet)) (rowWidth * a .n + (4 + 2 * numberBytes))))
 
 pub fits-trailer-spec : {M : Type 1} → statement M
 fits-trailer-spec =

@@ -1,15 +1,15 @@
--- `sheet::trailers::put_trailer` meets its contract: eight bytes copied behind the rows that they tell of. Assumes nothing.
+-- `sheet::trailers::put_trailer` meets its contract: its bytes copied behind the rows that they tell of. Assumes nothing.
 use denote.Ref.{now}
-use mathlib.Core.List.{_∷_, []}
 use mathlib.Core.Path.{_≡_, sym, _∙_}
-use Prim.Native.Nat.{_+_, _-_, _*_, _/_, _%_}
+use Prim.Native.Nat.{_-_, _*_}
 use native.Mathlib.Nat.{le-of-eq}
 use lib.ListN.{length}
 use lib.Seq.{length-take-le}
 use borrow.Rule.Slice.PartMut.{mid-len, midOf}
-use Rattle.sheet.specs.Sheets.{trailer, withTrailer}
+use Rattle.sheet.specs.Forms.{trailerOf, closed}
 use Rattle.sheet.proofs.SheetLaws.{copy-all, back-from}
 use native.Mathlib.Omega.{arith}
+use Rattle.sheet.specs.Sheets.{form, rowWidth, trailerLength}
 use borrow.Author.Needs.{needs}
 use Rattle.sheet.proofs.trailers.put_trailer.Statement.{statement}
 use Rattle.sheet.proofs.trailers.put_trailer.Tie as tie
@@ -24,19 +24,19 @@ slice-reshare-prefix-lowest-bad : tie.Need-slice-reshare-prefix-lowest-bad
 slice-reshare-prefix-lowest-bad c = search needs
 
 slice-aggregate-lowest-bad : tie.Need-slice-aggregate-lowest-bad
-slice-aggregate-lowest-bad c = let a = c .before .before .args in sym (length-take-le (2 * a .n) (now (a .sheet)) (omega arith))
+slice-aggregate-lowest-bad c = let a = c .before .before .args in sym (length-take-le (rowWidth * a .n) (now (a .sheet)) (omega arith))
 
 lowest-bad-requires : tie.Need-lowest-bad-requires
-lowest-bad-requires c κs = let a = c .before .before .args in (search needs, le-of-eq (sym (length-take-le (2 * a .n) (now (a .sheet)) (omega arith))))
+lowest-bad-requires c κs = let a = c .before .before .args in (search needs, le-of-eq (sym (length-take-le (rowWidth * a .n) (now (a .sheet)) (omega arith))))
 
 slice-reshare-prefix-bad-rows : tie.Need-slice-reshare-prefix-bad-rows
 slice-reshare-prefix-bad-rows c = search needs
 
 slice-aggregate-bad-rows : tie.Need-slice-aggregate-bad-rows
-slice-aggregate-bad-rows c = let a = c .before .before .before .before .args in sym (length-take-le (2 * a .n) (now (a .sheet)) (omega arith))
+slice-aggregate-bad-rows c = let a = c .before .before .before .before .args in sym (length-take-le (rowWidth * a .n) (now (a .sheet)) (omega arith))
 
 bad-rows-requires : tie.Need-bad-rows-requires
-bad-rows-requires c κs = let a = c .before .before .before .before .args in (search needs, le-of-eq (sym (length-take-le (2 * a .n) (now (a .sheet)) (omega arith))))
+bad-rows-requires c κs = let a = c .before .before .before .before .args in (search needs, le-of-eq (sym (length-take-le (rowWidth * a .n) (now (a .sheet)) (omega arith))))
 
 cast-t14 : tie.Need-cast-t14
 cast-t14 c = search needs
@@ -63,17 +63,17 @@ same-length : tie.Need-same-length
 same-length c = search needs
 
 returns : tie.Need-returns
-unfolding withTrailer trailer
+unfolding closed trailerOf
 returns c =
     let a = c .before .before .before .before .before .before .before .before .before .before .args in
     let s = now (a .sheet) in
     let n = a .n in
     let lowest = c .before .before .before .before .before .before .before .lowest-bad in
     let found = c .before .before .before .before .before .bad-rows in
-    let l : length (midOf (2 * n) (length s - 2 * n) s) ≡ 8 = mid-len (2 * n) (length s) s (search needs) ∙ (omega arith) in
-    let t = (2 * n + 8) / 256 ∷ (2 * n + 8) % 256 ∷ 2 ∷ a .head ∷ lowest .result ∷ found .result ∷ 50 ∷ 65 ∷ [] in
-    let f : c .before .before .copy .last .1 .0 ≡ t = c .before .before .copy .ensures .1 ∙ copy-all t (midOf (2 * n) (length s - 2 * n) s) l in
-    rw f (back-from s t (2 * n) ∙ rw (lowest .ensures, found .ensures))
+    let l : length (midOf (rowWidth * n) (length s - rowWidth * n) s) ≡ trailerLength = mid-len (rowWidth * n) (length s) s (search needs) ∙ (omega arith) in
+    let t = trailerOf form n (a .head) (lowest .result) (found .result) in
+    let f : c .before .before .copy .last .1 .0 ≡ t = c .before .before .copy .ensures .1 ∙ copy-all t (midOf (rowWidth * n) (length s - rowWidth * n) s) l in
+    rw f (back-from s t (rowWidth * n) ∙ rw (lowest .ensures, found .ensures))
 
 pub put-trailer-spec : {M : Type 1} → statement M
 put-trailer-spec =
