@@ -14,7 +14,7 @@ use Rattle.filing.specs.declared.Place.{Place}
 use Rattle.files.specs.Files.{recordOffset, placesOf}
 use Rattle.files.specs.Calls.{showOutcome, shownField, shownOffset, shownLength}
 use Rattle.files.specs.Promises.{StandsAt}
-use Rattle.files.proofs.LengthLaws.{done}
+use Rattle.filing.proofs.RefusalLaws.{done}
 use Rattle.files.proofs.PlaceLaws.{places-tile, place-inside}
 use Rattle.files.proofs.ShowLaws.{shown-there, shown-at}
 

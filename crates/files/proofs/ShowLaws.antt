@@ -1,8 +1,8 @@
 -- How showing ends: what no refusal tells of the record's number and the field's, and what is shown.
 -- Assumes nothing.
 use mathlib.Core.Path.{_≡_, refl, sym, ap, _∙_}
-use mathlib.Core.Bool.{true, false, cond, _||_}
-use mathlib.Core.List.{List, [], _∷_}
+use mathlib.Core.Bool.{true, false}
+use mathlib.Core.List.{List, [], _∷_, _++_}
 use Prim.Native.Nat.{ℕ, zero, suc, _+_, _-_, _*_, _≤_}
 use native.Mathlib.Omega.{arith}
 use lib.ListN.{length, take, drop}
@@ -11,11 +11,10 @@ use lib.Dec.{ltb, eqb}
 use borrow.Author.Tests.{eqb-false, ltb-false}
 use Rattle.filing.specs.Fields.{placeOf}
 use Rattle.filing.specs.Outcomes.{refusal, ifDone}
-use Rattle.filing.specs.declared.Outcome.{Outcome}
-use Rattle.filing.specs.declared.Outcome.the-variants as outcome
+use Rattle.filing.proofs.RefusalLaws.{done, none-applies}
 use Rattle.files.specs.Files.{stations, recordAt, placesOf, fieldAt, fieldCount}
-use Rattle.files.specs.Calls.{numberOutcome, showOutcome, shownField}
-use Rattle.files.proofs.LengthLaws.{done, positive, or-false, answered-no, whole-records}
+use Rattle.files.specs.Calls.{fileTests, numberTest, fieldTest, showOutcome, shownField}
+use Rattle.files.proofs.LengthLaws.{positive, or-false, whole-records}
 use Rattle.files.proofs.PlaceLaws.{places-tile, place-inside, piece-there}
 
 -- a part of the front is a part of the whole
@@ -32,19 +31,14 @@ pub record Shown (file : List ℕ) (k j : ℕ) : Type 0 where
   pub there : j ≤ length (placesOf k)
 
 module _ (file : List ℕ) (k j : ℕ) where
-  -- what showing asks of the field
-  abbrev field-asked : Outcome
-  field-asked = cond (eqb j 0 || ltb (fieldCount k) j) outcome.NoSuchField outcome.Done
-
   -- Showing that is done has such a record and field,
   pub shown-there : done (showOutcome file k j) ≡ true → Shown file k j
   unfolding showOutcome refusal fieldCount
   shown-there t =
-      let w = whole-records file (numberOutcome file k field-asked) t in
-      let n = answered-no (ltb (stations file) k) outcome.NoSuchRecord field-asked refl (w .2) in
-      let f = answered-no (eqb j 0 || ltb (fieldCount k) j) outcome.NoSuchField outcome.Done refl (n .1) in
-      let o = or-false (eqb j 0) (ltb (fieldCount k) j) (f .0) in
-      let low : k ≤ stations file = ltb-false (stations file) k (n .0) in
+      let none = none-applies (fileTests file ++ (numberTest file k ∷ fieldTest k j ∷ [])) refl t in
+      let w = whole-records file (none .0, (none .1 .0, tt)) in
+      let o = or-false (eqb j 0) (ltb (fieldCount k) j) (none .1 .1 .1 .0) in
+      let low : k ≤ stations file = ltb-false (stations file) k (none .1 .1 .0) in
       record { whole = omega (arith, low, w .1); positive = positive j (eqb-false j 0 (o .0)); there = ltb-false (fieldCount k) j (o .1) }
 
   -- and shows the field;

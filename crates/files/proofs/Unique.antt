@@ -12,7 +12,7 @@ use Rattle.filing.specs.declared.Place.{Place}
 use Rattle.files.specs.Files.{placesOf}
 use Rattle.files.specs.Calls.{showOutcome, shownOffset}
 use Rattle.files.specs.Promises.{FileChecked, StationsCounted, RecordFound, FieldPlaced, ShowJudged, FieldShown}
-use Rattle.files.proofs.LengthLaws.{done}
+use Rattle.filing.proofs.RefusalLaws.{done}
 use Rattle.files.proofs.PlaceLaws.{not-header}
 use Rattle.files.proofs.PieceLaws.{shown-begins}
 

@@ -1,28 +1,29 @@
 -- Document 01, "Refusal numbers": what every call on a file asks of it first, and how showing ends.
 use Prim.Native.Nat.{ℕ, _+_, _-_, _*_}
-use mathlib.Core.Bool.{cond, _||_}
-use mathlib.Core.List.{List, []}
+use mathlib.Core.Bool.{_||_}
+use mathlib.Core.List.{List, [], _∷_, _++_}
 use lib.Dec.{ltb, eqb}
 use Rattle.filing.specs.Fields.{recordLength, placeOf}
-use Rattle.filing.specs.Outcomes.{ifDone}
+use Rattle.filing.specs.Outcomes.{ifDone, Test, when, firstRefusal}
 use Rattle.filing.specs.declared.Outcome.{Outcome}
 use Rattle.filing.specs.declared.Outcome.the-variants as outcome
 use Rattle.files.specs.Files.{stations, tooLong, notRecords, placesOf, fieldAt, fieldCount}
 
--- Where the file's length is right the rest is asked; where it is wrong, 1 and 2 settle the call.
-unfoldable pub fileOutcome : List ℕ → Outcome → Outcome
-fileOutcome file rest = cond (tooLong file) outcome.FileTooLong (cond (notRecords file) outcome.FileNotRecords rest)
+-- What every call on a file asks first: its length. Where it is wrong, 1 and 2 settle the call.
+abbrev pub fileTests : List ℕ → List Test
+fileTests file = when (tooLong file) outcome.FileTooLong ∷ when (notRecords file) outcome.FileNotRecords ∷ []
 
 -- The record's number is above n.
-abbrev pub numberOutcome : List ℕ → ℕ → Outcome → Outcome
-numberOutcome file k rest = cond (ltb (stations file) k) outcome.NoSuchRecord rest
+abbrev pub numberTest : List ℕ → ℕ → Test
+numberTest file k = when (ltb (stations file) k) outcome.NoSuchRecord
+
+-- The record has no such field.
+abbrev pub fieldTest : ℕ → ℕ → Test
+fieldTest k j = when (eqb j 0 || ltb (fieldCount k) j) outcome.NoSuchField
 
 -- Showing uses 1, 2, 5 and 8.
 unfoldable pub showOutcome : List ℕ → ℕ → ℕ → Outcome
-showOutcome file k j =
-    fileOutcome file
-    (numberOutcome file k
-    (cond (eqb j 0 || ltb (fieldCount k) j) outcome.NoSuchField outcome.Done))
+showOutcome file k j = firstRefusal (fileTests file ++ (numberTest file k ∷ fieldTest k j ∷ []))
 
 -- It answers the piece of the file that holds the field, and an empty one on a refusal.
 unfoldable pub shownField : List ℕ → ℕ → ℕ → List ℕ

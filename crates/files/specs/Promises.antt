@@ -4,11 +4,11 @@ use mathlib.Core.Path.{_≡_}
 use mathlib.Core.List.{List}
 use denote.Ref.{RefT, ptr, now}
 use Rattle.filing.specs.Fields.{placeOf}
+use Rattle.filing.specs.Outcomes.{firstRefusal}
 use Rattle.filing.specs.declared.Outcome.{Outcome}
-use Rattle.filing.specs.declared.Outcome.the-variants as outcome
 use Rattle.filing.specs.declared.Place.{Place}
 use Rattle.files.specs.Files.{stations, recordAt, recordOffset, placesOf}
-use Rattle.files.specs.Calls.{fileOutcome, showOutcome, shownField, shownOffset}
+use Rattle.files.specs.Calls.{fileTests, showOutcome, shownField, shownOffset}
 
 -- A piece of the bytes that are lent, not a copy: it begins a bytes after their first.
 abbrev pub StandsAt : RefT (List ℕ) → ℕ → RefT (List ℕ) → Type 0
@@ -16,7 +16,7 @@ StandsAt whole a piece = ptr piece ≡ (ptr whole .0, ptr whole .1 + a)
 
 -- `check_file`: 1, 2, or done.
 abbrev pub FileChecked : List ℕ → Outcome → Type 0
-FileChecked file answer = answer ≡ fileOutcome file outcome.Done
+FileChecked file answer = answer ≡ firstRefusal (fileTests file)
 
 -- `stations_in`: how many stations the file has.
 abbrev pub StationsCounted : List ℕ → ℕ → Type 0

@@ -1,3 +1,4 @@
+pub mod RefusalLaws
 pub mod CallLaws
 pub mod FieldLaws
 pub mod RuleLaws

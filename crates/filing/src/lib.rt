@@ -21,5 +21,8 @@ pub enum Outcome {
     RecordLength,
     BufferLength,
     NoSuchField,
+    NotALine,
+    FieldTooLong,
+    BufferTooShort,
     RuleBroken(u8),
 }

@@ -28,6 +28,9 @@ pub fn refusal_number(outcome: Outcome) -> u8
         Outcome::RecordLength => 6,
         Outcome::BufferLength => 7,
         Outcome::NoSuchField => 8,
+        Outcome::NotALine => 10,
+        Outcome::FieldTooLong => 11,
+        Outcome::BufferTooShort => 12,
         Outcome::RuleBroken(_) => 9,
     }
 }

@@ -3,7 +3,7 @@
 use mathlib.Core.Path.{_≡_, sym, _∙_}
 use mathlib.Core.List.{List}
 use Prim.Native.Nat.{ℕ}
-use Rattle.lists.specs.declared.Listed.{Listed}
+use Rattle.filing.specs.declared.Outcome.{Outcome}
 use Rattle.gathering.specs.Promises.{LineEnded, Begun, GoneOn, GatheredFiled}
 use Rattle.gathering.specs.declared.Gathered.{Gathered}
 
@@ -20,5 +20,5 @@ pub one-gone-on : (before : List ℕ) (g : Gathered) (part : List ℕ) (a b : Ga
 one-gone-on before g part a b x y p q = (p .0 ∙ sym (q .0), p .1 ∙ sym (q .1))
 
 -- Two answers of `file_gathered` to one line and one buffer are equal, and so is what they leave there.
-pub one-gathered-filed : (buffer : List ℕ) (g : Gathered) (before : List ℕ) (a b : Listed) (x y : List ℕ) → GatheredFiled buffer g before a x → GatheredFiled buffer g before b y → (a ≡ b) × (x ≡ y)
+pub one-gathered-filed : (buffer : List ℕ) (g : Gathered) (before : List ℕ) (a b : Outcome) (x y : List ℕ) → GatheredFiled buffer g before a x → GatheredFiled buffer g before b y → (a ≡ b) × (x ≡ y)
 one-gathered-filed buffer g before a b x y p q = (p .0 ∙ sym (q .0), p .1 ∙ sym (q .1))

@@ -3,7 +3,7 @@ use Prim.Native.Nat.{ℕ}
 use mathlib.Core.Path.{_≡_}
 use mathlib.Core.List.{List, []}
 use lib.ListN.{length}
-use Rattle.lists.specs.declared.Listed.{Listed}
+use Rattle.filing.specs.declared.Outcome.{Outcome}
 use Rattle.gathering.specs.Cutting.{firstLine}
 use Rattle.gathering.specs.Gathering.{keptOf, keptWith, holding}
 use Rattle.gathering.specs.Calls.{gatheredFiling, filedGathered}
@@ -22,5 +22,5 @@ abbrev pub GoneOn : List ℕ → Gathered → List ℕ → Gathered → List ℕ
 GoneOn before g part answer after = (answer ≡ keptWith before g part) × (after ≡ holding before (g .held) part)
 
 -- `file_gathered` into 219 lent bytes: how it ends, and what they hold after it.
-abbrev pub GatheredFiled : List ℕ → Gathered → List ℕ → Listed → List ℕ → Type 0
+abbrev pub GatheredFiled : List ℕ → Gathered → List ℕ → Outcome → List ℕ → Type 0
 GatheredFiled buffer g before answer after = (answer ≡ gatheredFiling buffer g before) × (after ≡ filedGathered buffer g before)

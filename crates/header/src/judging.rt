@@ -75,7 +75,7 @@ pub fn check_header(rec: &[u8]) -> Outcome
 }
 
 // The code of a header in its file of n stations: 15 where it breaks no rule and its count is not n.
-fn filed_header_code(rec: &[u8], n: usize) -> u8
+pub fn filed_header_code(rec: &[u8], n: usize) -> u8
     requires { ⌜ length (now rec) ≡ 219 ⌝ }
     ensures { λ r. ⌜ r ≡ filedHeaderCode (now (rec .entry)) n ⌝ }
 {

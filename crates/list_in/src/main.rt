@@ -1,13 +1,13 @@
 // A semicolon list comes in on standard input; the record of each line that is accepted goes to standard output, and a line
 // that is refused is named on standard error.
+use filing::outcomes::code_with;
+use filing::outcomes::is_done;
+use filing::outcomes::refusal_number;
 use gathering::Gathered;
 use gathering::cutting::line_end;
 use gathering::lines::gather;
 use gathering::lines::nothing;
 use gathering::records::file_gathered;
-use lists::outcomes::is_listed;
-use lists::outcomes::listed_code;
-use lists::outcomes::listed_number;
 ghost use Prim.Native.Nat.{_≤_};
 ghost use lib.ListN.{length};
 ghost use Rattle.gathering.specs.Cutting.{openLine, afterPart};
@@ -95,8 +95,8 @@ fn end_line(line: &[u8; 250], progress: Progress) -> Progress
     let mut record = [b' '; 219];
     let gathered = progress.gathered;
     let outcome = file_gathered(line, gathered, &mut record);
-    if !is_listed(outcome) {
-        return refuse(progress, listed_number(outcome), listed_code(outcome));
+    if !is_done(outcome) {
+        return refuse(progress, refusal_number(outcome), code_with(outcome));
     }
     if 250 <= progress.records {
         return refuse(progress, 1, 0);

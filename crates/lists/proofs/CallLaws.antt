@@ -1,15 +1,15 @@
 -- How a call on a line ends, by the tests that it passes.
 -- Assumes nothing.
 use mathlib.Core.Path.{_≡_, refl, sym, ap, _∙_}
-use mathlib.Core.Bool.{Bool, true, false}
+use mathlib.Core.Bool.{true, false}
 use mathlib.Core.List.{List, _++_}
 use Prim.Native.Nat.{ℕ, _≤_, _<_}
 use lib.Dec.{leb, eqb}
 use lib.ListN.{length, take, drop}
 use lib.Seq.{length-take-le}
-use borrow.Author.Tests.{eq-eqb, ne-eqb, eqb-true, lt-leb}
+use borrow.Author.Tests.{eq-eqb, ne-eqb, lt-leb}
 use Rattle.filing.specs.Fields.{recordLength}
-use Rattle.filing.specs.Outcomes.{refusal, codeWith, ifDone, judged}
+use Rattle.filing.specs.Outcomes.{refusal, ifDone, firstRefusal}
 use Rattle.filing.specs.declared.Outcome.{Outcome}
 use Rattle.station.specs.Places.{stationPlaces}
 use Rattle.station.specs.Values.{emptyStation}
@@ -19,66 +19,43 @@ use Rattle.station.specs.Calls.{readOutcome, readStation, writeOutcome, written
 use Rattle.station.specs.declared.Station.{Station}
 use Rattle.lists.specs.Fields.{noneLonger}
 use Rattle.lists.specs.Lines.{lineOf, lineFields, isLine, recordOf}
-use Rattle.lists.specs.Outcomes.{listedRefusal, ifListed, unbroken}
 use Rattle.lists.specs.Calls.{lineOutcome, stationInLine, writeLineOutcome, lineLength, writtenLine}
-use Rattle.lists.specs.declared.Listed.{Listed}
-use Rattle.lists.specs.declared.Listed.the-variants as listed
+use Rattle.filing.specs.declared.Outcome.the-variants as outcome
 use Rattle.lists.proofs.RoundTrip.{write-done}
 use Rattle.lists.proofs.Reading.{record-length}
 
--- The code that comes with an outcome is the one that it was judged by.
-pub code-back : (k : ℕ) → codeWith (judged k) ≡ k
-unfolding judged codeWith
-code-back k = by (eqb k 0) refl where
-  by : (b : Bool) → eqb k 0 ≡ b → codeWith (judged k) ≡ k
-  by true z = rw z (sym (eqb-true k 0 z))
-  by false z = rw z
-
--- A call that ends by a code hands back the same on a record and on a line.
-pub same-answer : {A : Type 0} (k : ℕ) (v e : A) → ifDone (judged k) v e ≡ ifListed (unbroken k listed.Done) v e
-unfolding judged ifDone refusal unbroken ifListed listedRefusal
-same-answer {A} k v e = by (eqb k 0) refl where
-  by : (b : Bool) → eqb k 0 ≡ b → ifDone (judged k) v e ≡ ifListed (unbroken k listed.Done) v e
-  by true z = rw z
-  by false z = rw z
-
 module _ (t : List ℕ) where
   -- What is not a line is refused,
-  pub not-a-line : isLine t ≡ false → (listed.NotALine ≡ lineOutcome t) × (emptyStation ≡ stationInLine t)
-  unfolding lineOutcome stationInLine ifListed listedRefusal
+  pub not-a-line : isLine t ≡ false → (outcome.NotALine ≡ lineOutcome t) × (emptyStation ≡ stationInLine t)
+  unfolding lineOutcome stationInLine firstRefusal ifDone refusal
   not-a-line e = (rw e, rw e)
 
   -- a line with a field that is too long is,
-  pub long-field : isLine t ≡ true → noneLonger stationPlaces (lineFields t) ≡ false → (listed.FieldTooLong ≡ lineOutcome t) × (emptyStation ≡ stationInLine t)
-  unfolding lineOutcome stationInLine ifListed listedRefusal
+  pub long-field : isLine t ≡ true → noneLonger stationPlaces (lineFields t) ≡ false → (outcome.FieldTooLong ≡ lineOutcome t) × (emptyStation ≡ stationInLine t)
+  unfolding lineOutcome stationInLine firstRefusal ifDone refusal
   long-field e l = (rw (e, l), rw (e, l))
 
   -- and any other is read as its record is.
   pub record-read : isLine t ≡ true → noneLonger stationPlaces (lineFields t) ≡ true → (rec : List ℕ) → rec ≡ recordOf t
-      → (o : Outcome) (s : Station) (c : ℕ) (answer : Listed) → o ≡ readOutcome rec → s ≡ readStation rec → c ≡ codeWith o → answer ≡ unbroken c listed.Done
-      → (answer ≡ lineOutcome t) × (s ≡ stationInLine t)
-  unfolding lineOutcome stationInLine readOutcome readStation
-  record-read e f rec is o s c answer eo es ec ea =
-      let k = stationCode (recordOf t) in
+      → (o : Outcome) (s : Station) → o ≡ readOutcome rec → s ≡ readStation rec → (o ≡ lineOutcome t) × (s ≡ stationInLine t)
+  unfolding lineOutcome stationInLine readOutcome readStation firstRefusal
+  record-read e f rec is o s eo es =
       let size : eqb (length (recordOf t)) recordLength ≡ true = eq-eqb (length (recordOf t)) recordLength (record-length t f) in
-      let judge : o ≡ judged k = eo ∙ rw (is, size) in (
-        ea ∙ rw (ec, judge, code-back k, e, f),
-        es ∙ rw (is, size, e, f) (same-answer k (valueOf (recordOf t)) emptyStation),
-      )
+      (eo ∙ rw (is, size, e, f), es ∙ rw (is, size, e, f))
 
 -- A station that breaks no rule is written into a buffer of 219 bytes.
 pub record-written : (s : Station) (before after : List ℕ) → length before ≡ recordLength → typedCode s ≡ 0 → after ≡ writtenStation s before → after ≡ spellStation s
-unfolding writtenStation writeOutcome judged ifDone refusal
+unfolding writtenStation writeOutcome firstRefusal ifDone refusal
 record-written s before after n e w = w ∙ rw (eq-eqb (length before) recordLength n, e)
 
 -- How writing a station into a buffer ends, and what is answered and left.
-abbrev Ends : Station → List ℕ → Listed → ℕ → List ℕ → Type 0
+abbrev Ends : Station → List ℕ → Outcome → ℕ → List ℕ → Type 0
 Ends s buffer answer n after = (answer ≡ writeLineOutcome s buffer) × (n ≡ lineLength s buffer) × (after ≡ writtenLine s buffer)
 
 module _ (s : Station) (buffer : List ℕ) where
   -- One that breaks a rule is refused,
-  pub rule-broken : (a : ℕ) → a ≡ typedCode s → (a ≡ 0 → ⊥) → Ends s buffer (listed.RuleBroken a) 0 buffer
-  unfolding writeLineOutcome lineLength writtenLine unbroken ifListed listedRefusal
+  pub rule-broken : (a : ℕ) → a ≡ typedCode s → (a ≡ 0 → ⊥) → Ends s buffer (outcome.RuleBroken a) 0 buffer
+  unfolding writeLineOutcome lineLength writtenLine firstRefusal ifDone refusal
   rule-broken a e n =
       let z : eqb (typedCode s) 0 ≡ false = ne-eqb (typedCode s) 0 (λ q. n (e ∙ q)) in
       (rw (z, e), rw z, rw z)
@@ -89,15 +66,15 @@ module _ (s : Station) (buffer : List ℕ) where
     size = sym (length-take-le n line inside) ∙ ap length is
 
     -- one whose line is longer than the buffer is,
-    pub no-room : length buffer < n → Ends s buffer listed.BufferTooShort 0 buffer
-    unfolding writeLineOutcome lineLength writtenLine unbroken ifListed listedRefusal
+    pub no-room : length buffer < n → Ends s buffer outcome.BufferTooShort 0 buffer
+    unfolding writeLineOutcome lineLength writtenLine firstRefusal ifDone refusal
     no-room h =
         let long : leb (length (lineOf s)) (length buffer) ≡ false = lt-leb (length (lineOf s)) (length buffer) (rw (← size) h) in
         (rw (z, long), rw (z, long), rw (z, long))
 
     -- and any other is written.
-    pub line-written : n ≤ length buffer → (after : List ℕ) → after ≡ take n line ++ drop n buffer → Ends s buffer listed.Done n after
-    unfolding lineLength writtenLine ifListed listedRefusal
+    pub line-written : n ≤ length buffer → (after : List ℕ) → after ≡ take n line ++ drop n buffer → Ends s buffer outcome.Done n after
+    unfolding lineLength writtenLine ifDone refusal
     line-written h after e =
-        let done : writeLineOutcome s buffer ≡ listed.Done = write-done s buffer z (rw (← size) h) in
+        let done : writeLineOutcome s buffer ≡ outcome.Done = write-done s buffer z (rw (← size) h) in
         (sym done, rw done size, e ∙ rw (done, is, size))

@@ -1,25 +1,26 @@
 -- What is read from a line that is not refused: a record of 219 bytes, and a station that breaks no rule.
 -- Assumes nothing.
 use mathlib.Core.Path.{_≡_, refl, ap}
-use mathlib.Core.Bool.{Bool, true, false, cond}
+use mathlib.Core.Bool.{Bool, true, false}
 use mathlib.Core.List.{List, [], _∷_}
 use Prim.Native.Nat.{ℕ, zero, suc, _+_, _-_, _≤_}
 use native.Mathlib.Omega.{arith}
 use lib.Dec.{leb, eqb}
 use lib.ListN.{length, length-append, length-replicate}
-use borrow.Author.Tests.{eqb-true, leb-true}
+use borrow.Author.Tests.{eqb-true, leb-true, not-false}
 use Rattle.columns.proofs.TextLaws.{and-split}
 use Rattle.filing.specs.Fields.{recordLength, joined}
+use Rattle.filing.specs.Outcomes.{refusal, ifDone}
+use Rattle.filing.proofs.RefusalLaws.{done, none-applies}
 use Rattle.station.specs.Places.{stationPlaces}
 use Rattle.station.specs.Codes.{valueOf, stationCode, typedCode}
 use Rattle.station.proofs.RoundTrip.{read-fits}
 use Rattle.lists.specs.Fields.{stationSides, missing, paddedField, paddedFields, noneLonger}
 use Rattle.lists.specs.Lines.{lineOf, split, lineFields, isLine, recordOf}
-use Rattle.lists.specs.Outcomes.{listedRefusal, ifListed, unbroken}
-use Rattle.lists.specs.Calls.{lineOutcome, stationInLine}
+use Rattle.lists.specs.Calls.{lineTests, lineOutcome, stationInLine}
 use Rattle.lists.specs.declared.Side.{Side}
 use Rattle.lists.specs.declared.Side.the-variants as side
-use Rattle.lists.specs.declared.Listed.the-variants as listed
+use Rattle.filing.specs.declared.Outcome.the-variants as outcome
 use Rattle.lists.proofs.RoundTrip.{line-back}
 
 -- a field that is not too long is padded to its columns
@@ -55,28 +56,23 @@ pub record-length : (t : List ℕ) → noneLonger stationPlaces (lineFields t) �
 unfolding recordOf lineFields
 record-length t h = padded-joined stationSides stationPlaces (split 30 t) refl (split-length 30 t) h
 
--- a reading that is done passed all three tests
-passed : (a b z : Bool) (k : ℕ) → listedRefusal (cond a (cond b (cond z listed.Done (listed.RuleBroken k)) listed.FieldTooLong) listed.NotALine) ≡ 0 → (b ≡ true) × (z ≡ true)
-unfolding listedRefusal
-passed true true true k e = (refl, refl)
-passed true true false k e = absurd (omega arith)
-passed true false z k e = absurd (omega arith)
-passed false b z k e = absurd (omega arith)
+-- the tests that a line that is not refused has passed
+tests-passed : (t : List ℕ) → lineOutcome t ≡ outcome.Done → (noneLonger stationPlaces (lineFields t) ≡ true) × (eqb (stationCode (recordOf t)) 0 ≡ true)
+unfolding lineOutcome refusal
+tests-passed t e =
+    let none = none-applies (lineTests t) refl (ap done e) in
+    (not-false _ (none .1 .0), not-false _ (none .1 .1 .0))
 
-tests-passed : (t : List ℕ) → lineOutcome t ≡ listed.Done → (noneLonger stationPlaces (lineFields t) ≡ true) × (eqb (stationCode (recordOf t)) 0 ≡ true)
-unfolding lineOutcome unbroken listedRefusal
-tests-passed t e = passed (isLine t) (noneLonger stationPlaces (lineFields t)) (eqb (stationCode (recordOf t)) 0) (stationCode (recordOf t)) (ap listedRefusal e)
-
-line-value : (t : List ℕ) → lineOutcome t ≡ listed.Done → stationInLine t ≡ valueOf (recordOf t)
-unfolding stationInLine ifListed listedRefusal
+line-value : (t : List ℕ) → lineOutcome t ≡ outcome.Done → stationInLine t ≡ valueOf (recordOf t)
+unfolding stationInLine ifDone refusal
 line-value t e = rw e
 
 -- A line that is not refused is read as a station that breaks no rule,
-pub line-fits : (t : List ℕ) → lineOutcome t ≡ listed.Done → typedCode (stationInLine t) ≡ 0
+pub line-fits : (t : List ℕ) → lineOutcome t ≡ outcome.Done → typedCode (stationInLine t) ≡ 0
 line-fits t e =
     let h = tests-passed t e in
     rw (line-value t e) (read-fits (recordOf t) (record-length t (h .0)) (eqb-true (stationCode (recordOf t)) 0 (h .1)))
 
 -- which, written as a line and read again, is the same.
-pub line-again : (t : List ℕ) → lineOutcome t ≡ listed.Done → stationInLine (lineOf (stationInLine t)) ≡ stationInLine t
+pub line-again : (t : List ℕ) → lineOutcome t ≡ outcome.Done → stationInLine (lineOf (stationInLine t)) ≡ stationInLine t
 line-again t e = line-back (stationInLine t) (line-fits t e)

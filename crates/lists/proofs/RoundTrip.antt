@@ -1,7 +1,7 @@
 -- A station and its line: what is written is read back.
 -- Assumes nothing.
 use mathlib.Core.Path.{_≡_, refl, sym, ap, _∙_}
-use mathlib.Core.Bool.{Bool, true, false, cond}
+use mathlib.Core.Bool.{Bool, true, false, not, cond}
 use mathlib.Core.List.{List, [], _∷_, _++_}
 use Prim.Native.Nat.{ℕ, _-_, _≤_}
 use native.Mathlib.Omega.{arith}
@@ -25,9 +25,9 @@ use Rattle.station.specs.declared.Station.{Station}
 use Rattle.station.proofs.RoundTrip.{write-keeps, read-back}
 use Rattle.lists.specs.Fields.{stationSides, trimmedFields, noneLonger}
 use Rattle.lists.specs.Lines.{isSemicolon, isFeed, joinedLine, lineOf, lineFields, lastByte, isLine, recordOf}
-use Rattle.lists.specs.Outcomes.{listedRefusal, ifListed, unbroken}
+use Rattle.filing.specs.Outcomes.{refusal, ifDone, firstRefusal}
 use Rattle.lists.specs.Calls.{lineOutcome, stationInLine, writeLineOutcome, lineLength, writtenLine}
-use Rattle.lists.specs.declared.Listed.the-variants as listed
+use Rattle.filing.specs.declared.Outcome.the-variants as outcome
 use Rattle.lists.proofs.LineLaws.{AllPlain, split-joined, semicolons, one-feed, feed-last}
 use Rattle.lists.proofs.PieceLaws.{Pieces, pieces-wide, pieces-plain, pieces-short, pieces-back}
 use Rattle.lists.proofs.FieldPieces.{byte-piece, amount-piece, unit-piece, tenths-piece, radius-piece, ground-piece, height-piece, day-piece, position-piece}
@@ -188,15 +188,15 @@ record-line s e =
     ap (λ (ps : List (List ℕ)). joinedLine (trimmedFields stationSides ps)) back
 
 -- so a station that breaks no rule, written as a line, is not refused,
-pub line-done : (s : Station) → typedCode s ≡ 0 → lineOutcome (lineOf s) ≡ listed.Done
-unfolding lineOutcome unbroken
+pub line-done : (s : Station) → typedCode s ≡ 0 → lineOutcome (lineOf s) ≡ outcome.Done
+unfolding lineOutcome firstRefusal
 line-done s e =
     let h = values-hold s e in
     rw (line-marks s h, line-short s h, line-record s e, write-keeps s e)
 
 -- and read back is the same station.
 pub line-back : (s : Station) → typedCode s ≡ 0 → stationInLine (lineOf s) ≡ s
-unfolding stationInLine ifListed listedRefusal
+unfolding stationInLine ifDone refusal
 line-back s e = rw (line-done s e, line-record s e) (read-back s e)
 
 -- Stations with one line are equal.
@@ -206,13 +206,13 @@ one-line s t e f g = sym (line-back s e) ∙ ap stationInLine g ∙ line-back t 
 -- ---- what writing leaves
 
 -- A station that breaks no rule is written into a buffer that is as long as its line or longer,
-pub write-done : (s : Station) (buffer : List ℕ) → typedCode s ≡ 0 → length (lineOf s) ≤ length buffer → writeLineOutcome s buffer ≡ listed.Done
-unfolding writeLineOutcome unbroken
+pub write-done : (s : Station) (buffer : List ℕ) → typedCode s ≡ 0 → length (lineOf s) ≤ length buffer → writeLineOutcome s buffer ≡ outcome.Done
+unfolding writeLineOutcome firstRefusal
 write-done s buffer e n = rw (e, le-leb (length (lineOf s)) (length buffer) n)
 
 -- and the bytes up to the length that is answered are its line,
 pub write-line : (s : Station) (buffer : List ℕ) → typedCode s ≡ 0 → length (lineOf s) ≤ length buffer → take (lineLength s buffer) (writtenLine s buffer) ≡ lineOf s
-unfolding lineLength writtenLine ifListed listedRefusal
+unfolding lineLength writtenLine ifDone refusal
 write-line s buffer e n = rw (write-done s buffer e n) (take-at (lineOf s) (drop (length (lineOf s)) buffer) (length (lineOf s)) refl)
 
 -- so that they are read as the station.
@@ -221,13 +221,13 @@ write-back s buffer e n = rw (write-line s buffer e n) (line-back s e)
 
 -- The buffer keeps its length.
 same-length : (line buffer : List ℕ) (k : ℕ) (z b : Bool) → leb (length line) (length buffer) ≡ b
-    → length (ifListed (cond z (cond b listed.Done listed.BufferTooShort) (listed.RuleBroken k)) (line ++ drop (length line) buffer) buffer) ≡ length buffer
-unfolding ifListed listedRefusal
+    → length (ifDone (cond (not z) (outcome.RuleBroken k) (cond (not b) outcome.BufferTooShort outcome.Done)) (line ++ drop (length line) buffer) buffer) ≡ length buffer
+unfolding ifDone refusal
 same-length line buffer k true true e =
     omega (arith, length-append line (drop (length line) buffer), length-drop (length line) buffer, leb-true (length line) (length buffer) e)
 same-length line buffer k true false e = refl
 same-length line buffer k false b e = refl
 
 pub write-length : (s : Station) (buffer : List ℕ) → length (writtenLine s buffer) ≡ length buffer
-unfolding writtenLine writeLineOutcome unbroken
+unfolding writtenLine writeLineOutcome firstRefusal
 write-length s buffer = same-length (lineOf s) buffer (typedCode s) (eqb (typedCode s) 0) (leb (length (lineOf s)) (length buffer)) refl

@@ -6,9 +6,9 @@ use mathlib.Core.List.{List}
 use Prim.Native.Nat.{ℕ}
 use lib.Dec.{eqb}
 use Rattle.station.specs.declared.Station.{Station}
-use Rattle.lists.specs.Outcomes.{listedRefusal, listedCode}
+use Rattle.filing.specs.Outcomes.{refusal, codeWith}
 use Rattle.lists.specs.Promises.{LineRead, LineWritten, RecordListed, LineFiled}
-use Rattle.lists.specs.declared.Listed.{Listed}
+use Rattle.filing.specs.declared.Outcome.{Outcome}
 use Rattle.lists.specs.declared.reading_lines.ReadLine.{ReadLine}
 use Rattle.lists.specs.declared.writing_lines.WrittenLine.{WrittenLine}
 
@@ -29,17 +29,5 @@ pub one-record-listed : (r before : List ℕ) (a b : WrittenLine) (x y : List �
 one-record-listed r before a b x y p q = (same-written a b (p .0 ∙ sym (q .0)) (p .1 ∙ sym (q .1)), p .2 ∙ sym (q .2))
 
 -- Two answers of `line_to_record` to one line and the same lent bytes are equal, and so is what they leave there.
-pub one-line-filed : (t before : List ℕ) (a b : Listed) (x y : List ℕ) → LineFiled t before a x → LineFiled t before b y → (a ≡ b) × (x ≡ y)
+pub one-line-filed : (t before : List ℕ) (a b : Outcome) (x y : List ℕ) → LineFiled t before a x → LineFiled t before b y → (a ≡ b) × (x ≡ y)
 one-line-filed t before a b x y p q = (p .0 ∙ sym (q .0), p .1 ∙ sym (q .1))
-
--- An outcome is read off in one number,
-pub one-number : (o : Listed) (a b : ℕ) → a ≡ listedRefusal o → b ≡ listedRefusal o → a ≡ b
-one-number o a b p q = p ∙ sym q
-
--- and one code.
-pub one-code : (o : Listed) (a b : ℕ) → a ≡ listedCode o → b ≡ listedCode o → a ≡ b
-one-code o a b p q = p ∙ sym q
-
--- Whether it is done has one answer too.
-pub one-test : (o : Listed) (a b : Bool) → a ≡ eqb (listedRefusal o) 0 → b ≡ eqb (listedRefusal o) 0 → a ≡ b
-one-test o a b p q = p ∙ sym q

@@ -13,7 +13,7 @@ use Rattle.station.specs.Codes.{typedCode}
 use Rattle.station.specs.Spelling.{spellStation}
 use Rattle.station.specs.declared.Station.{Station}
 use Rattle.lists.specs.Lines.{isFeed, lineOf, lastByte}
-use Rattle.lists.specs.Outcomes.{listedRefusal, ifListed}
+use Rattle.filing.specs.Outcomes.{refusal, ifDone}
 use Rattle.lists.specs.Whole.{linesFrom, linesOf, broughtIn, recordsOf}
 use Rattle.lists.proofs.LineLaws.{last-cons}
 use Rattle.lists.proofs.RoundTrip.{line-done, line-back}
@@ -66,5 +66,5 @@ records-append (l ∷ ls) ms = ap (λ (t : List ℕ). broughtIn l ++ t) (records
 
 -- The line of a station that breaks no rule brings in its record.
 pub brought-back : (s : Station) → typedCode s ≡ 0 → broughtIn (lineOf s) ≡ spellStation s
-unfolding broughtIn ifListed listedRefusal
+unfolding broughtIn ifDone refusal
 brought-back s e = rw (line-done s e, line-back s e)

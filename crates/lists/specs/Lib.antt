@@ -1,6 +1,5 @@
 pub mod Fields
 pub mod Lines
-pub mod Outcomes
 pub mod Calls
 pub mod Whole
 pub mod Promises

@@ -4,7 +4,7 @@ use mathlib.Core.Path.{_≡_}
 use mathlib.Core.List.{List}
 use Rattle.station.specs.declared.Station.{Station}
 use Rattle.lists.specs.Calls.{lineOutcome, stationInLine, writeLineOutcome, lineLength, writtenLine, recordListing, listedLength, listedRecord, lineFiling, filedLine}
-use Rattle.lists.specs.declared.Listed.{Listed}
+use Rattle.filing.specs.declared.Outcome.{Outcome}
 use Rattle.lists.specs.declared.reading_lines.ReadLine.{ReadLine}
 use Rattle.lists.specs.declared.writing_lines.WrittenLine.{WrittenLine}
 
@@ -21,5 +21,5 @@ abbrev pub RecordListed : List ℕ → List ℕ → WrittenLine → List ℕ →
 RecordListed r before answer after = (answer .outcome ≡ recordListing r before) × (answer .length ≡ listedLength r before) × (after ≡ listedRecord r before)
 
 -- `line_to_record` of a line into 219 lent bytes: how it ends, and what they hold after it.
-abbrev pub LineFiled : List ℕ → List ℕ → Listed → List ℕ → Type 0
+abbrev pub LineFiled : List ℕ → List ℕ → Outcome → List ℕ → Type 0
 LineFiled t before answer after = (answer ≡ lineFiling t before) × (after ≡ filedLine t before)

@@ -5,7 +5,7 @@ use mathlib.Core.List.{List, [], _∷_, _++_}
 use Rattle.columns.specs.Texts.{ended}
 use Rattle.station.specs.Spelling.{spellStation}
 use Rattle.lists.specs.Lines.{isFeed}
-use Rattle.lists.specs.Outcomes.{ifListed}
+use Rattle.filing.specs.Outcomes.{ifDone}
 use Rattle.lists.specs.Calls.{lineOutcome, stationInLine}
 
 -- The lines of a text that goes on a line begun by p: each ends with its line feed, and what stands behind the last one is a line too,
@@ -20,7 +20,7 @@ linesOf t = linesFrom [] t
 
 -- The record that a line brings in, in the one spelling; none where the line is refused.
 unfoldable pub broughtIn : List ℕ → List ℕ
-broughtIn l = ifListed (lineOutcome l) (spellStation (stationInLine l)) []
+broughtIn l = ifDone (lineOutcome l) (spellStation (stationInLine l)) []
 
 -- The records that some lines bring in.
 abbrev pub recordsOf : List (List ℕ) → List ℕ

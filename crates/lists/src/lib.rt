@@ -1,7 +1,6 @@
 // Stations as lines of a semicolon list, for owners who keep them in office software.
 
 pub mod marks;
-pub mod outcomes;
 mod padding;
 pub mod reading_lines;
 pub mod records;
@@ -14,15 +13,4 @@ pub enum Side {
     Left,
     Right,
     Kept,
-}
-
-// A call on a line is done, or refused for the first reason that applies to it.
-pub enum Listed {
-    Done,
-    RecordLength,
-    BufferLength,
-    NotALine,
-    FieldTooLong,
-    BufferTooShort,
-    RuleBroken(u8),
 }

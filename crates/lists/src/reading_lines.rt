@@ -1,13 +1,11 @@
 // Reading a line: the station that it says.
-use crate::Listed;
-use crate::outcomes::unbroken;
 use crate::padding::put_padded;
 use crate::padding::side_after;
 use crate::padding::width_after;
 use crate::splitting::field_at;
 use crate::splitting::is_line;
 use crate::splitting::past;
-use filing::outcomes::code_with;
+use filing::Outcome;
 use reading::typed::empty_station;
 use reading::typed::read_station;
 use station::Station;
@@ -21,7 +19,7 @@ ghost use Rattle.lists.specs.Promises.{LineRead};
 
 // How reading a line ends, and the station; on a refusal the empty one.
 pub struct ReadLine {
-    pub outcome: Listed,
+    pub outcome: Outcome,
     pub station: Station,
 }
 
@@ -56,22 +54,19 @@ pub fn read_line(line: &[u8]) -> ReadLine
 {
     if !is_line(line) {
         return ReadLine {
-            outcome: Listed::NotALine,
+            outcome: Outcome::NotALine,
             station: empty_station(),
         };
     }
     let mut rec = [b' '; 219];
     if !put_fields(line, &mut rec) {
         return ReadLine {
-            outcome: Listed::FieldTooLong,
+            outcome: Outcome::FieldTooLong,
             station: empty_station(),
         };
     }
     let read = read_station(&rec);
     let outcome = read.outcome;
     let station = read.station;
-    ReadLine {
-        outcome: unbroken(code_with(outcome)),
-        station,
-    }
+    ReadLine { outcome, station }
 }

@@ -1,10 +1,9 @@
 // A station's record as a line, and a line as a station's record.
-use crate::Listed;
-use crate::outcomes::is_listed;
 use crate::reading_lines::read_line;
 use crate::writing_lines::WrittenLine;
 use crate::writing_lines::write_accepted;
-use filing::outcomes::code_with;
+use filing::Outcome;
+use filing::outcomes::is_done;
 use reading::typed::read_station;
 use writing::write_station;
 ghost use Rattle.lists.specs.Promises.{RecordListed, LineFiled};
@@ -14,37 +13,27 @@ ghost use Rattle.lists.specs.Promises.{RecordListed, LineFiled};
 pub fn record_to_line(rec: &[u8], buffer: &mut [u8]) -> WrittenLine
     ensures { λ r. ⌜ RecordListed (now (rec .entry)) (now (buffer .entry)) r (now (buffer .exit)) ⌝ }
 {
-    if rec.len() != 219 {
-        return WrittenLine {
-            outcome: Listed::RecordLength,
-            length: 0,
-        };
-    }
     let read = read_station(rec);
     let outcome = read.outcome;
     let station = read.station;
-    let code = code_with(outcome);
-    if code != 0 {
-        return WrittenLine {
-            outcome: Listed::RuleBroken(code),
-            length: 0,
-        };
+    if !is_done(outcome) {
+        return WrittenLine { outcome, length: 0 };
     }
     write_accepted(station, buffer)
 }
 
 // Writes the station of a line as a record; it is refused where the lent bytes are not 219, or where reading the line is, and
 // then nothing is written.
-pub fn line_to_record(line: &[u8], out: &mut [u8]) -> Listed
+pub fn line_to_record(line: &[u8], out: &mut [u8]) -> Outcome
     ensures { λ r. ⌜ LineFiled (now (line .entry)) (now (out .entry)) r (now (out .exit)) ⌝ }
 {
     if out.len() != 219 {
-        return Listed::BufferLength;
+        return Outcome::BufferLength;
     }
     let read = read_line(line);
     let outcome = read.outcome;
     let station = read.station;
-    if is_listed(outcome) {
+    if is_done(outcome) {
         write_station(station, out);
     }
     outcome

@@ -1,10 +1,10 @@
 // Writing a line: a station as its owner keeps it.
-use crate::Listed;
 use crate::Side;
 use crate::padding::put_text;
 use crate::padding::side_after;
 use crate::padding::width_after;
 use crate::trimming::trimmed_part;
+use filing::Outcome;
 use station::Station;
 use station::typed::typed_code;
 use writing::write_station;
@@ -22,7 +22,7 @@ ghost use Rattle.lists.specs.Promises.{LineWritten};
 
 // How writing a line ends, and the line's length; 0 on a refusal.
 pub struct WrittenLine {
-    pub outcome: Listed,
+    pub outcome: Outcome,
     pub length: usize,
 }
 
@@ -103,13 +103,13 @@ pub(crate) fn write_accepted(s: Station, buffer: &mut [u8]) -> WrittenLine
     let n = spell_line(s, &mut line);
     if buffer.len() < n {
         return WrittenLine {
-            outcome: Listed::BufferTooShort,
+            outcome: Outcome::BufferTooShort,
             length: 0,
         };
     }
     put_first(buffer, &line, n);
     WrittenLine {
-        outcome: Listed::Done,
+        outcome: Outcome::Done,
         length: n,
     }
 }
@@ -122,7 +122,7 @@ pub fn write_line(s: Station, buffer: &mut [u8]) -> WrittenLine
     let code = typed_code(s);
     if code != 0 {
         return WrittenLine {
-            outcome: Listed::RuleBroken(code),
+            outcome: Outcome::RuleBroken(code),
             length: 0,
         };
     }

@@ -212,7 +212,7 @@ fn last_between(rec: &[u8]) -> u8
 }
 
 // The first broken rule of a record, 0 where none is.
-fn station_code(rec: &[u8]) -> u8
+pub fn station_code(rec: &[u8]) -> u8
     requires { ⌜ length (now rec) ≡ 219 ⌝ }
     ensures { λ r. ⌜ r ≡ stationCode (now (rec .entry)) ⌝ }
 {

@@ -1,12 +1,8 @@
 -- Document 01, "Refusal numbers": how the calls on stations end, and what they hand back and leave.
 use Prim.Native.Nat.{ℕ}
-use mathlib.Core.Bool.{cond}
-use mathlib.Core.List.{List}
-use Rattle.columns.specs.Texts.{sized}
-use Rattle.filing.specs.Fields.{recordLength}
-use Rattle.filing.specs.Outcomes.{ifDone, judged}
+use mathlib.Core.List.{List, [], _∷_}
+use Rattle.filing.specs.Outcomes.{ifDone, firstRefusal, recordTest, bufferTest, ruleTest, judged}
 use Rattle.filing.specs.declared.Outcome.{Outcome}
-use Rattle.filing.specs.declared.Outcome.the-variants as outcome
 use Rattle.station.specs.Values.{emptyStation}
 use Rattle.station.specs.Spelling.{spellStation}
 use Rattle.station.specs.Codes.{valueOf, stationCode, typedCode}
@@ -14,7 +10,7 @@ use Rattle.station.specs.declared.Station.{Station}
 
 -- Reading a record uses 6 and 9.
 unfoldable pub readOutcome : List ℕ → Outcome
-readOutcome r = cond (sized recordLength r) (judged (stationCode r)) outcome.RecordLength
+readOutcome r = firstRefusal (recordTest r ∷ ruleTest (stationCode r) ∷ [])
 
 -- It returns the station, and the empty one on a refusal.
 unfoldable pub readStation : List ℕ → Station
@@ -22,7 +18,7 @@ readStation r = ifDone (readOutcome r) (valueOf r) emptyStation
 
 -- Writing into a lent buffer uses 7 and 9.
 unfoldable pub writeOutcome : Station → List ℕ → Outcome
-writeOutcome s buffer = cond (sized recordLength buffer) (judged (typedCode s)) outcome.BufferLength
+writeOutcome s buffer = firstRefusal (bufferTest buffer ∷ ruleTest (typedCode s) ∷ [])
 
 -- It leaves the station's spelling there, and on a refusal every byte as it was.
 unfoldable pub writtenStation : Station → List ℕ → List ℕ

@@ -14,7 +14,7 @@ use Rattle.filing.proofs.outcomes.code_with.Tie as tie
 
 -- the variants before the last
 abbrev earlier : List ℕ
-earlier = 0 ∷ 1 ∷ 2 ∷ 3 ∷ 4 ∷ 5 ∷ 6 ∷ 7 ∷ 8 ∷ []
+earlier = 0 ∷ 1 ∷ 2 ∷ 3 ∷ 4 ∷ 5 ∷ 6 ∷ 7 ∷ 8 ∷ 9 ∷ 10 ∷ 11 ∷ []
 
 -- each of them comes with 0
 no-code : (o : Outcome) → OneOf earlier (tagOf the-type o) → 0 ≡ codeWith o
@@ -28,7 +28,10 @@ no-code outcome.NoSuchRecord k = refl
 no-code outcome.RecordLength k = refl
 no-code outcome.BufferLength k = refl
 no-code outcome.NoSuchField k = refl
-no-code (outcome.RuleBroken c) k = absurd (miss earlier 9 tt k)
+no-code outcome.NotALine k = refl
+no-code outcome.FieldTooLong k = refl
+no-code outcome.BufferTooShort k = refl
+no-code (outcome.RuleBroken c) k = absurd (miss earlier 12 tt k)
 
 enum-known-outcome : tie.Need-enum-known-outcome
 enum-known-outcome c = search needs

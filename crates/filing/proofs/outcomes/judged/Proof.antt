@@ -1,15 +1,15 @@
 -- `filing::outcomes::judged` meets its contract. Assumes nothing.
 use borrow.Author.Tests.{eq-eqb, ne-eqb}
-use Rattle.filing.specs.Outcomes.{judged}
+use Rattle.filing.specs.Outcomes.{judged, firstRefusal}
 use Rattle.filing.proofs.outcomes.judged.Statement.{statement}
 use Rattle.filing.proofs.outcomes.judged.Tie as tie
 
 returns : tie.Need-returns
-unfolding judged
+unfolding judged firstRefusal
 returns c = rw (eq-eqb _ _ (c .if1 .taken))
 
 returns-2 : tie.Need-returns-2
-unfolding judged
+unfolding judged firstRefusal
 returns-2 c = rw (ne-eqb _ _ (c .if1 .left))
 
 pub judged-spec : {M : Type 1} → statement M

@@ -1,4 +1,4 @@
--- `filing::outcomes::refusal_number` meets its contract, variant by variant. Assumes nothing.
+-- `filing::outcomes::refusal_number` meets its contract, variant by variant.
 use Rattle.filing.specs.Outcomes.{refusal}
 use borrow.Author.Needs.{needs}
 use Rattle.filing.proofs.outcomes.refusal_number.Statement.{statement}
@@ -33,6 +33,15 @@ enum-told-9 c = search needs
 
 enum-told-10 : tie.Need-enum-told-10
 enum-told-10 c = search needs
+
+enum-told-11 : tie.Need-enum-told-11
+enum-told-11 c = search needs
+
+enum-told-12 : tie.Need-enum-told-12
+enum-told-12 c = search needs
+
+enum-told-13 : tie.Need-enum-told-13
+enum-told-13 c = search needs
 
 returns : tie.Need-returns
 unfolding refusal
@@ -74,6 +83,18 @@ returns-10 : tie.Need-returns-10
 unfolding refusal
 returns-10 c = rw (c .enum-told10 .given .1)
 
+returns-11 : tie.Need-returns-11
+unfolding refusal
+returns-11 c = rw (c .enum-told11 .given .1)
+
+returns-12 : tie.Need-returns-12
+unfolding refusal
+returns-12 c = rw (c .enum-told12 .given .1)
+
+returns-13 : tie.Need-returns-13
+unfolding refusal
+returns-13 c = rw (c .enum-told13 .given .1)
+
 pub refusal-number-spec : {M : Type 1} → statement M
 refusal-number-spec =
     tie.close
@@ -88,6 +109,9 @@ refusal-number-spec =
     enum-told-8
     enum-told-9
     enum-told-10
+    enum-told-11
+    enum-told-12
+    enum-told-13
     returns
     returns-2
     returns-3
@@ -97,4 +121,7 @@ refusal-number-spec =
     returns-7
     returns-8
     returns-9
-    returns-10)
+    returns-10
+    returns-11
+    returns-12
+    returns-13)

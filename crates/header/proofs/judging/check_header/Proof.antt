@@ -1,13 +1,16 @@
 -- `header::judging::check_header` meets its contract. Assumes nothing.
-use borrow.Author.Tests.{eq-eqb, ne-eqb}
+use denote.Ref.{now}
+use Rattle.filing.specs.declared.Outcome.the-variants as outcome
+use Rattle.filing.proofs.CallLaws.{length-ends, code-ends}
 use Rattle.header.specs.Calls.{readHeaderOutcome}
+use Rattle.header.specs.Codes.{headerCode}
 use borrow.Author.Needs.{needs}
 use Rattle.header.proofs.judging.check_header.Statement.{statement}
 use Rattle.header.proofs.judging.check_header.Tie as tie
 
 returns : tie.Need-returns
 unfolding readHeaderOutcome
-returns c = rw (ne-eqb _ _ (c .if1 .taken))
+returns c = length-ends (now (c .before .before .args .rec)) (headerCode (now (c .before .before .args .rec))) outcome.RecordLength (c .if1 .taken)
 
 header-code-requires : tie.Need-header-code-requires
 header-code-requires c κs = search needs
@@ -17,7 +20,7 @@ judged-requires c κs = search needs
 
 returns-2 : tie.Need-returns-2
 unfolding readHeaderOutcome
-returns-2 c = rw (eq-eqb _ _ (c .before .before .if1 .left), ← c .before .header-code .ensures) (c .judged .ensures)
+returns-2 c = code-ends (now (c .before .before .before .before .args .rec)) _ outcome.RecordLength (c .before .before .if1 .left) (c .before .header-code .ensures) (c .judged .ensures)
 
 pub check-header-spec : {M : Type 1} → statement M
 check-header-spec = tie.close (tie.spec returns header-code-requires judged-requires returns-2)

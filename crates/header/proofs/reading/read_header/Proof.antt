@@ -8,7 +8,8 @@ use denote.Ref.{now}
 use Rattle.filing.specs.Fields.{recordLength}
 use Rattle.filing.specs.Outcomes.{refusal}
 use Rattle.filing.specs.declared.Outcome.the-variants as outcome
-use Rattle.filing.proofs.CallLaws.{done, accepted, handed}
+use Rattle.filing.proofs.RefusalLaws.{done}
+use Rattle.filing.proofs.CallLaws.{accepted, handed}
 use Rattle.header.specs.Values.{emptyHeader}
 use Rattle.header.specs.Codes.{headerValue, headerCode}
 use Rattle.header.specs.Calls.{readHeaderOutcome, readHeader}

@@ -38,19 +38,13 @@ slice-aggregate-read-station c = search needs
 read-station-requires : tie.Need-read-station-requires
 read-station-requires c κs = search needs
 
-code-with-requires : tie.Need-code-with-requires
-code-with-requires c κs = search needs
-
-unbroken-requires : tie.Need-unbroken-requires
-unbroken-requires c κs = search needs
-
 returns-3 : tie.Need-returns-3
 returns-3 c =
-    let line = now (c .before .before .before .before .before .before .before .before .before .before .before .before .args .line) in
-    let put = c .before .before .before .before .before .before .before .put-fields .ensures in
-    let all = not-false _ (c .before .before .before .before .before .if2 .left) in
-    let read = c .before .before .before .read-station .ensures in
-    record-read line (sym (c .before .before .before .before .before .before .before .before .before .before .is-line .ensures) ∙ not-false _ (c .before .before .before .before .before .before .before .before .before .if1 .left)) (sym (put .0) ∙ all) _ (put .1 all) _ _ _ _ (read .0) (read .1) (c .before .code-with .ensures) (c .unbroken .ensures)
+    let line = now (c .before .before .before .before .before .before .before .before .before .before .args .line) in
+    let put = c .before .before .before .before .before .put-fields .ensures in
+    let all = not-false _ (c .before .before .before .if2 .left) in
+    let read = c .before .read-station .ensures in
+    record-read line (sym (c .before .before .before .before .before .before .before .before .is-line .ensures) ∙ not-false _ (c .before .before .before .before .before .before .before .if1 .left)) (sym (put .0) ∙ all) _ (put .1 all) _ _ (read .0) (read .1)
 
 pub read-line-spec : {M : Type 1} → statement M
 read-line-spec =
@@ -65,6 +59,4 @@ read-line-spec =
     returns-2
     slice-aggregate-read-station
     read-station-requires
-    code-with-requires
-    unbroken-requires
     returns-3)

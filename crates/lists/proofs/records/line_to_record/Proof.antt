@@ -12,8 +12,8 @@ returns c = not-the-length (now (c .before .before .before .args .line)) (now (c
 read-line-requires : tie.Need-read-line-requires
 read-line-requires c κs = search needs
 
-is-listed-requires : tie.Need-is-listed-requires
-is-listed-requires c κs = search needs
+is-done-requires : tie.Need-is-done-requires
+is-done-requires c κs = search needs
 
 write-station-requires : tie.Need-write-station-requires
 write-station-requires c κs = search needs
@@ -25,12 +25,12 @@ returns-2 : tie.Need-returns-2
 returns-2 c =
     let a = c .before .before .before .before .before .before .before .before .before .before .before .args in
     let read = c .before .before .before .before .before .before .before .read-line .ensures in
-    line-filed (now (a .line)) (now (a .out)) (c .before .before .before .before .before .before .before .before .if1 .left) _ (read .0) (sym (c .before .before .before .before .before .is-listed .ensures) ∙ c .before .before .before .before .if2 .taken) _ (read .1) _ (c .before .before .write-station .ensures .1)
+    line-filed (now (a .line)) (now (a .out)) (c .before .before .before .before .before .before .before .before .if1 .left) _ (read .0) (sym (c .before .before .before .before .before .is-done .ensures) ∙ c .before .before .before .before .if2 .taken) _ (read .1) _ (c .before .before .write-station .ensures .1)
 
 returns-3 : tie.Need-returns-3
 returns-3 c =
     let a = c .before .before .before .before .before .before .before .args in
-    line-refused (now (a .line)) (now (a .out)) (c .before .before .before .before .if1 .left) _ (c .before .before .before .read-line .ensures .0) (sym (c .before .is-listed .ensures) ∙ c .if2 .left)
+    line-refused (now (a .line)) (now (a .out)) (c .before .before .before .before .if1 .left) _ (c .before .before .before .read-line .ensures .0) (sym (c .before .is-done .ensures) ∙ c .if2 .left)
 
 pub line-to-record-spec : {M : Type 1} → statement M
 line-to-record-spec =
@@ -38,7 +38,7 @@ line-to-record-spec =
     (tie.spec
     returns
     read-line-requires
-    is-listed-requires
+    is-done-requires
     write-station-requires
     same-length
     returns-2

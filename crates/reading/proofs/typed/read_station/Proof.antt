@@ -10,7 +10,8 @@ use Rattle.filing.specs.Outcomes.{refusal}
 use Rattle.filing.specs.Rules.{All}
 use Rattle.filing.specs.declared.Outcome.the-variants as outcome
 use Rattle.filing.proofs.RuleLaws.{all-hold, all-front}
-use Rattle.filing.proofs.CallLaws.{done, accepted, handed}
+use Rattle.filing.proofs.RefusalLaws.{done}
+use Rattle.filing.proofs.CallLaws.{accepted, handed}
 use Rattle.station.specs.Places.{fieldsOf}
 use Rattle.station.specs.Rules.{fieldRules}
 use Rattle.station.specs.Between.{betweenRules}
