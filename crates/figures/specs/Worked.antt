@@ -25,20 +25,20 @@ use Rattle.station.specs.Codes.{valueOf, stationCode, typedCode}
 use Rattle.lists.specs.Fields.{trimmedField, paddedField}
 use Rattle.lists.specs.Lines.{lineOf, before, behind, split, lineFields, isLine}
 use Rattle.lists.specs.Lines as lines
-use Rattle.lists.specs.Outcomes.{listedRefusal, listedCode, ifListed, unbroken}
+use Rattle.filing.specs.Outcomes.{refusal, codeWith, ifDone, firstRefusal}
 use Rattle.lists.specs.Calls.{lineOutcome, stationInLine}
 use Rattle.header.specs.Places.{headerFields}
 use Rattle.header.specs.Values.{serialGood, serialOf, headerOf}
 use Rattle.header.specs.Rules.{headerRules}
 use Rattle.header.specs.Codes.{headerValue, headerCode, filedHeaderCode}
 use Rattle.files.specs.Files.{stations, recordAt, withRecord, tooLong, notRecords, placesOf, fieldAt, fieldCount}
-use Rattle.files.specs.Calls.{fileOutcome, showOutcome, shownField}
-use Rattle.sheet.specs.Sheets.{codeAt, referenceAt, twinAt, rowOf, judgedSheet, sheetOf}
+use Rattle.files.specs.Calls.{showOutcome, shownField}
+use Rattle.stations.specs.Stations.{codeAt, referenceAt}
+use Rattle.sheet.specs.Sheets.{twinAt, rowOf, judgedSheet, sheetOf}
 use Rattle.sheet.specs.Forms.{rowAt, badAt, trailerOf, closed, headAt, fitsForm}
-use Rattle.sheet.specs.Replacing.{touched, mendedRow, rowsWritten}
+use Rattle.sheet.specs.Replacing.{touched, mendedRow, writes, rowsWritten}
 use Rattle.sheet.specs.Replacing as replacing
 use Rattle.sheet.specs.Calls.{replaceOutcome, replacedSheet, replacedRows}
-use Rattle.filing.specs.Outcomes.{refusal, ifDone}
 use Rattle.figures.specs.Figures.{Figure, figure, minus, Holds, AllHold}
 use lib.IntN.{pos}
 use Rattle.figures.specs.Samples as samples
@@ -136,9 +136,9 @@ pub record Worked : Type 0 where
   pub s-line : lineOf (valueOf s) ≡ lineS
   pub s-kept : stationInLine keptS ≡ valueOf s
   -- Rules come last, long fields before them, and the number of semicolons first.
-  pub rule-last : (listedRefusal (lineOutcome wholePower) ≡ 9) × (listedCode (lineOutcome wholePower) ≡ 15)
-  pub long-field : listedRefusal (lineOutcome longClass) ≡ 11
-  pub semicolons-first : listedRefusal (lineOutcome fieldLost) ≡ 10
+  pub rule-last : (refusal (lineOutcome wholePower) ≡ 9) × (codeWith (lineOutcome wholePower) ≡ 15)
+  pub long-field : refusal (lineOutcome longClass) ≡ 11
+  pub semicolons-first : refusal (lineOutcome fieldLost) ≡ 10
   -- Two of them are twins. Ending number 1's 13X in 002 writes 2 rows, and no row is bad then.
   pub two-judged : sheetOf two ≡ twoSheet
   pub two-mended : replacedSheet two twoSheet 1 (sWith 30 "AUT2311AB01A002") ≡ mendedSheet
@@ -159,7 +159,7 @@ pub record Worked : Type 0 where
   pub no-field : refusal (showOutcome two 0 15) ≡ 8
 
 pub worked : Worked
-unfolding Holds among isHex isNarrow isText isName skip trimmed every howMany each byteGood same oneOf leading numberFrom wholeDigits wholeOf unsigned signedOf fractionOf magnitudeOf decimalOf dateRule dateIn dateOf dayGood dayOf tenthsGood tenthsOf amountGood unitGood unitOf frequencyOf radiusOf groundOf heightGood heightOf arcSeconds arcGood arcOf positionGood positionOf bandwidthGood detailGood emissionGood cellGood installationGood remarksGood isCategory classGood serviceGood usersGood isCarrier nameGood countryGood isBasis polarisationGood antennaGood isStatus referenceGood firstBroken fieldsOf fieldRules channelFields siteFields emissionFields antennaFields filingFields mobile roundAntenna firstBetween lastBetween betweenRules stationOf valueOf stationCode isMail textGood dateGood serialGood serialOf headerOf headerFields headerRules headerValue headerCode filedHeaderCode stations recordAt withRecord referenceAt codeAt tooLong notRecords placesOf fieldAt fieldCount twinAt rowOf rowAt badAt trailerOf closed judgedSheet sheetOf headAt fitsForm touched mendedRow replacing.mendedSheet rowsWritten refusal ifDone fileOutcome replaceOutcome replacedSheet replacedRows showOutcome shownField frequencyFits dayFits radiusFits groundFits heightFits positionFits tenthsFit channelRules siteRules emissionRules antennaRules filingRules typedRules typedCode spellDigits spellMagnitude spellDecimal spellSigned spellDate spellDay spellTenths unitLetter spellAmount spellUnit spellRadius spellGround spellHeight spellArc spellPosition channelPieces sitePieces emissionPieces antennaPieces filingPieces stationPieces spellStation trimmedField paddedField lineOf before behind split lineFields isLine lines.recordOf listedRefusal listedCode ifListed unbroken lineOutcome stationInLine
+unfolding Holds among isHex isNarrow isText isName skip trimmed every howMany each byteGood same oneOf leading numberFrom wholeDigits wholeOf unsigned signedOf fractionOf magnitudeOf decimalOf dateRule dateIn dateOf dayGood dayOf tenthsGood tenthsOf amountGood unitGood unitOf frequencyOf radiusOf groundOf heightGood heightOf arcSeconds arcGood arcOf positionGood positionOf bandwidthGood detailGood emissionGood cellGood installationGood remarksGood isCategory classGood serviceGood usersGood isCarrier nameGood countryGood isBasis polarisationGood antennaGood isStatus referenceGood firstBroken fieldsOf fieldRules channelFields siteFields emissionFields antennaFields filingFields mobile roundAntenna firstBetween lastBetween betweenRules stationOf valueOf stationCode isMail textGood dateGood serialGood serialOf headerOf headerFields headerRules headerValue headerCode filedHeaderCode stations recordAt withRecord referenceAt codeAt tooLong notRecords placesOf fieldAt fieldCount twinAt rowOf rowAt badAt trailerOf closed judgedSheet sheetOf headAt fitsForm touched mendedRow replacing.mendedSheet writes rowsWritten refusal ifDone firstRefusal replaceOutcome replacedSheet replacedRows showOutcome shownField frequencyFits dayFits radiusFits groundFits heightFits positionFits tenthsFit channelRules siteRules emissionRules antennaRules filingRules typedRules typedCode spellDigits spellMagnitude spellDecimal spellSigned spellDate spellDay spellTenths unitLetter spellAmount spellUnit spellRadius spellGround spellHeight spellArc spellPosition channelPieces sitePieces emissionPieces antennaPieces filingPieces stationPieces spellStation trimmedField paddedField lineOf before behind split lineFields isLine lines.recordOf codeWith lineOutcome stationInLine
 worked = record {
   traps-hold = (
     (refl, refl),

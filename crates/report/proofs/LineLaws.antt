@@ -8,7 +8,7 @@ use native.Mathlib.Nat.{add-zero}
 use native.Mathlib.Numerals.{add-one}
 use lib.ListN.{length}
 use Rattle.columns.proofs.RoundTrip.{spelled-length}
-use Rattle.sheet.specs.Counting.{rows}
+use Rattle.stations.specs.Counting.{rows}
 use Rattle.sheet.specs.Forms.{codeIn}
 use Rattle.sheet.specs.Sheets.{rowIn, twinIn, bad}
 use Rattle.report.specs.Lines.{places, decimal, stationLine}

@@ -14,10 +14,11 @@ use Rattle.station.specs.Codes.{valueOf, stationCode}
 use Rattle.station.proofs.RoundTrip.{read-fits}
 use Rattle.files.specs.Files.{stations, recordAt}
 use Rattle.files.proofs.FileLaws.{record-wide}
-use Rattle.files.proofs.LengthLaws.{done, whole-records}
-use Rattle.sheet.specs.Counting.{rows}
+use Rattle.filing.proofs.RefusalLaws.{done}
+use Rattle.files.proofs.LengthLaws.{length-passed, whole-records}
+use Rattle.stations.specs.Counting.{rows}
 use Rattle.lists.specs.Lines.{lastByte}
-use Rattle.lists.specs.Outcomes.{listedRefusal, ifListed}
+use Rattle.filing.specs.Outcomes.{refusal, ifDone}
 use Rattle.lists.specs.Whole.{linesFrom, linesOf, broughtIn, recordsOf}
 use Rattle.lists.proofs.LineLaws.{last-append}
 use Rattle.lists.proofs.WholeLaws.{lines-append, one-of-lines, records-append, brought-back}
@@ -39,7 +40,7 @@ alone t e = ap recordsOf (one-of-lines t (e .0) (e .1)) ∙ append-nil (broughtI
 
 -- the line of a station that breaks a rule brings in nothing
 nothing-back : (k c : ℕ) → broughtIn (brokenLine k c) ≡ []
-unfolding broughtIn ifListed listedRefusal
+unfolding broughtIn ifDone refusal
 nothing-back k c = rw (broken-refused k c)
 
 module _ (file : List ℕ) where
@@ -77,5 +78,5 @@ module _ (file : List ℕ) where
   -- The list of a filing brings back its stations.
   pub list-back : done (lengthOutcome file) ≡ true → recordsOf (linesOf (listOf file)) ≡ rows (returned file) (stations file)
   list-back t =
-      let whole = whole-records file outcome.Done t in
+      let whole = whole-records file (length-passed file t) in
       rw (whole-list file t) (rows-back (stations file) (omega (arith, whole .1)))

@@ -14,10 +14,10 @@ use Rattle.station.proofs.RoundTrip.{read-fits}
 use Rattle.files.specs.Files.{recordAt}
 use Rattle.files.proofs.FileLaws.{record-wide}
 use Rattle.lists.specs.Lines.{lineOf}
-use Rattle.lists.specs.Outcomes.{listedRefusal, listedCode, ifListed, unbroken}
+use Rattle.filing.specs.Outcomes.{refusal, codeWith, ifDone, firstRefusal}
 use Rattle.lists.specs.Calls.{recordListing, listedLength, listedRecord}
 use Rattle.lists.specs.Promises.{RecordListed}
-use Rattle.lists.specs.declared.Listed.the-variants as listed
+use Rattle.filing.specs.declared.Outcome.the-variants as outcome
 use Rattle.lists.specs.declared.writing_lines.WrittenLine.{WrittenLine}
 use Rattle.lists.proofs.SizeLaws.{line-size}
 use Rattle.report.specs.Lines.{brokenLine}
@@ -32,31 +32,31 @@ module _ (r buffer : List ℕ) (wide : length r ≡ recordLength) (room : 249 �
   line-room z = line-size (valueOf r) (read-fits r wide z)
 
   -- so that it is listed,
-  listed-whole : stationCode r ≡ 0 → recordListing r buffer ≡ listed.Done
-  unfolding recordListing unbroken
+  listed-whole : stationCode r ≡ 0 → recordListing r buffer ≡ outcome.Done
+  unfolding recordListing firstRefusal
   listed-whole z =
       let fits : length (lineOf (valueOf r)) ≤ length buffer = omega (arith, line-room z) in
       rw (eq-eqb (length r) recordLength wide, z, le-leb (length (lineOf (valueOf r))) (length buffer) fits)
 
   -- and any other is refused with its code.
-  listed-broken : eqb (stationCode r) 0 ≡ false → recordListing r buffer ≡ listed.RuleBroken (stationCode r)
-  unfolding recordListing unbroken
+  listed-broken : eqb (stationCode r) 0 ≡ false → recordListing r buffer ≡ outcome.RuleBroken (stationCode r)
+  unfolding recordListing firstRefusal
   listed-broken z = rw (eq-eqb (length r) recordLength wide, z)
 
   -- So the code that is answered is the record's.
-  code-told : listedCode (recordListing r buffer) ≡ stationCode r
-  unfolding listedCode
+  code-told : codeWith (recordListing r buffer) ≡ stationCode r
+  unfolding codeWith
   code-told = by (eqb (stationCode r) 0) refl where
-    by : (b : Bool) → eqb (stationCode r) 0 ≡ b → listedCode (recordListing r buffer) ≡ stationCode r
+    by : (b : Bool) → eqb (stationCode r) 0 ≡ b → codeWith (recordListing r buffer) ≡ stationCode r
     by true z =
         let e : stationCode r ≡ 0 = eqb-true (stationCode r) 0 z in
         rw (listed-whole e) (sym e)
     by false z = rw (listed-broken z)
 
-  module _ (k c : ℕ) (told : c ≡ listedCode (recordListing r buffer)) where
+  module _ (k c : ℕ) (told : c ≡ codeWith (recordListing r buffer)) where
     -- Where it is not 0 nothing was written, and the list has the number and the code;
     pub broken-entry : (c ≡ 0 → ⊥) → (listedRecord r buffer ≡ buffer) × (entry k r ≡ brokenLine k c)
-    unfolding listedRecord ifListed listedRefusal entry
+    unfolding listedRecord ifDone refusal entry
     broken-entry h =
         let e : c ≡ stationCode r = told ∙ code-told in
         let z : eqb (stationCode r) 0 ≡ false = ne-eqb (stationCode r) 0 (λ q. h (e ∙ q)) in
@@ -64,14 +64,14 @@ module _ (r buffer : List ℕ) (wide : length r ≡ recordLength) (room : 249 �
 
     -- where it is 0 the station's line was.
     pub line-entry : c ≡ 0 → (length (entry k r) ≤ 249) × (listedLength r buffer ≡ length (entry k r)) × (listedRecord r buffer ≡ entry k r ++ drop (length (entry k r)) buffer)
-    unfolding listedLength listedRecord ifListed listedRefusal entry
+    unfolding listedLength listedRecord ifDone refusal entry
     line-entry h =
         let z : stationCode r ≡ 0 = sym (told ∙ code-told) ∙ h in
         (rw z (line-room z), rw (listed-whole z, z), rw (listed-whole z, z))
 
 -- Station k of a file, its record listed into the lent bytes from start on.
 module _ (file out : List ℕ) (start k : ℕ) (inside : 219 * k + 219 ≤ length file) (room : start + 249 ≤ length out) (r part : List ℕ) (answer : WrittenLine) (c : ℕ)
-    (found : r ≡ recordAt file k) (is : RecordListed r (restOf out start) answer part) (told : c ≡ listedCode (answer .outcome)) where
+    (found : r ≡ recordAt file k) (is : RecordListed r (restOf out start) answer part) (told : c ≡ codeWith (answer .outcome)) where
   -- the record is whole
   r-wide : length r ≡ recordLength
   r-wide = ap length found ∙ record-wide file k inside
@@ -81,8 +81,8 @@ module _ (file out : List ℕ) (start k : ℕ) (inside : 219 * k + 219 ≤ lengt
   line-fits = omega (arith, rest-length out start (omega arith))
 
   -- the code is the one that listing told
-  c-told : c ≡ listedCode (recordListing r (restOf out start))
-  c-told = told ∙ ap listedCode (is .0)
+  c-told : c ≡ codeWith (recordListing r (restOf out start))
+  c-told = told ∙ ap codeWith (is .0)
 
   -- the list has for the station what it has for the record
   own : entryOf file k ≡ entry k r

@@ -19,11 +19,12 @@ use Rattle.station.specs.Codes.{valueOf, stationCode}
 use Rattle.station.proofs.RoundTrip.{read-fits}
 use Rattle.files.specs.Files.{stations, recordAt}
 use Rattle.files.proofs.FileLaws.{record-wide}
-use Rattle.files.proofs.LengthLaws.{done, whole-records}
-use Rattle.sheet.specs.Counting.{rows}
+use Rattle.filing.specs.Outcomes.{firstRefusal}
+use Rattle.filing.proofs.RefusalLaws.{done}
+use Rattle.files.proofs.LengthLaws.{length-passed, whole-records}
+use Rattle.stations.specs.Counting.{rows}
 use Rattle.lists.specs.Lines.{isSemicolon, isFeed, lastByte, isLine, joinedLine, lineOf}
 use Rattle.lists.specs.Calls.{lineOutcome}
-use Rattle.lists.specs.declared.Listed.the-variants as listed
 use Rattle.lists.proofs.LineLaws.{plain, semicolons, one-feed, feed-last}
 use Rattle.lists.proofs.PieceLaws.{every-more, every-append, solid, solid-plain, solid-digits}
 use Rattle.lists.proofs.RoundTrip.{line-is}
@@ -65,8 +66,8 @@ module _ (k c : ℕ) where
   no-semicolon = rw broken-field (semicolons front [] (front-plain, tt))
 
   -- so that it cannot be read as one,
-  pub broken-refused : lineOutcome (brokenLine k c) ≡ listed.NotALine
-  unfolding lineOutcome isLine
+  pub broken-refused : lineOutcome (brokenLine k c) ≡ outcome.NotALine
+  unfolding lineOutcome isLine firstRefusal
   broken-refused = rw no-semicolon
 
 -- what is a line of thirty fields is one
@@ -102,7 +103,7 @@ entry-lines file (suc n) h =
 -- and a list that is not refused has a line for each station.
 pub list-lines : (file : List ℕ) → done (lengthOutcome file) ≡ true → howMany isFeed (listOf file) ≡ stations file
 list-lines file t =
-    let whole = whole-records file outcome.Done t in
+    let whole = whole-records file (length-passed file t) in
     rw (whole-list file t) (entry-lines file (stations file) (omega (arith, whole .1)))
 
 -- A text has so many lines before a given one.
@@ -139,5 +140,5 @@ entry-at file (suc n) i h l =
 -- The line behind i others is that of station i + 1.
 pub station-line : (file : List ℕ) → done (lengthOutcome file) ≡ true → (i : ℕ) → i < stations file → LineAt (listOf file) i (entryOf file (i + 1))
 station-line file t i l =
-    let whole = whole-records file outcome.Done t in
+    let whole = whole-records file (length-passed file t) in
     rw (whole-list file t) (entry-at file (stations file) i (omega (arith, whole .1)) l)

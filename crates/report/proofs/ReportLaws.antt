@@ -10,10 +10,10 @@ use lib.ListN.{length, drop, length-append}
 use borrow.Author.Tests.{not-true, not-false}
 use Rattle.filing.specs.Outcomes.{refusal, ifDone}
 use Rattle.filing.specs.declared.Outcome.{Outcome}
-use Rattle.filing.specs.declared.Outcome.the-variants as outcome
 use Rattle.files.specs.Files.{stations, mostStations}
-use Rattle.files.proofs.LengthLaws.{done, whole-records}
-use Rattle.sheet.specs.Counting.{rows}
+use Rattle.filing.proofs.RefusalLaws.{done}
+use Rattle.files.proofs.LengthLaws.{length-passed, whole-records}
+use Rattle.stations.specs.Counting.{rows}
 use Rattle.sheet.specs.Sheets.{sheetOf}
 use Rattle.report.specs.Lines.{refusedLine}
 use Rattle.report.specs.Reports.{sheetReport, lengthOutcome, reportOf}
@@ -32,7 +32,7 @@ module _ (file : List ℕ) {o : Outcome} {b : Bool} (asked : o ≡ lengthOutcome
 
 -- A file whose length is right has at most 250 stations.
 pub few : (file : List ℕ) {n : ℕ} → done (lengthOutcome file) ≡ true → n ≡ stations file → n ≤ mostStations
-few file t e = rw e (whole-records file outcome.Done t .0)
+few file t e = rw e (whole-records file (length-passed file t) .0)
 
 -- A refused file has its one line,
 pub refused-report : (file : List ℕ) → done (lengthOutcome file) ≡ false → reportOf file ≡ refusedLine (refusal (lengthOutcome file))

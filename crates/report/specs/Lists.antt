@@ -7,7 +7,7 @@ use Rattle.filing.specs.Outcomes.{refusal, ifDone}
 use Rattle.station.specs.Spelling.{spellStation}
 use Rattle.station.specs.Codes.{valueOf, stationCode}
 use Rattle.files.specs.Files.{stations, recordAt}
-use Rattle.sheet.specs.Counting.{rows}
+use Rattle.stations.specs.Counting.{rows}
 use Rattle.lists.specs.Lines.{lineOf}
 use Rattle.report.specs.Lines.{refusedLine, brokenLine}
 use Rattle.report.specs.Reports.{lengthOutcome}

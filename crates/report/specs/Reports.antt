@@ -2,12 +2,11 @@
 use Prim.Native.Nat.{ℕ}
 use mathlib.Core.Bool.{cond}
 use mathlib.Core.List.{List, [], _++_}
-use Rattle.filing.specs.Outcomes.{refusal, ifDone}
+use Rattle.filing.specs.Outcomes.{refusal, ifDone, firstRefusal}
 use Rattle.filing.specs.declared.Outcome.{Outcome}
-use Rattle.filing.specs.declared.Outcome.the-variants as outcome
 use Rattle.files.specs.Files.{stations}
-use Rattle.files.specs.Calls.{fileOutcome}
-use Rattle.sheet.specs.Counting.{count, rows}
+use Rattle.files.specs.Calls.{fileTests}
+use Rattle.stations.specs.Counting.{count, rows}
 use Rattle.sheet.specs.Forms.{codeIn}
 use Rattle.sheet.specs.Sheets.{rowIn, twinIn, bad, sheetOf, headIn}
 use Rattle.report.specs.Lines.{refusedLine, headerLine, stationLine, totalLine}
@@ -26,7 +25,7 @@ sheetReport sheet n = sheetLines sheet n (count (bad sheet) n)
 
 -- What settles the file's length: 1, 2, or done.
 abbrev pub lengthOutcome : List ℕ → Outcome
-lengthOutcome file = fileOutcome file outcome.Done
+lengthOutcome file = firstRefusal (fileTests file)
 
 -- The report of a file: the lines of the sheet judged from it, and on a refusal its one line.
 unfoldable pub reportOf : List ℕ → List ℕ

@@ -4,13 +4,13 @@ use crate::lines::put_refused;
 use files::lengths::check_file;
 use files::lengths::record_in;
 use files::lengths::stations_in;
+use filing::outcomes::code_with;
 use filing::outcomes::is_done;
 use filing::outcomes::refusal_number;
-use lists::outcomes::listed_code;
 use lists::records::record_to_line;
 ghost use Prim.Native.Nat.{_+_, _*_, _≤_};
 ghost use lib.ListN.{length};
-ghost use Rattle.sheet.specs.Counting.{rows};
+ghost use Rattle.stations.specs.Counting.{rows};
 ghost use Rattle.report.specs.Lists.{entryOf};
 ghost use Rattle.report.specs.Promises.{Appended, ListWritten};
 
@@ -24,7 +24,7 @@ fn put_entry(out: &mut [u8], start: usize, file: &[u8], i: usize) -> usize
     let k = i + 1;
     let written = record_to_line(record_in(file, k), &mut out[start..]);
     let outcome = written.outcome;
-    let code = listed_code(outcome);
+    let code = code_with(outcome);
     if code > 0 {
         return put_broken(out, start, k as u8, code);
     }

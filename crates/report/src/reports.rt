@@ -7,14 +7,15 @@ use files::lengths::check_file;
 use files::lengths::stations_in;
 use filing::outcomes::is_done;
 use filing::outcomes::refusal_number;
+use sheet::forms::LONGEST_SHEET;
+use sheet::forms::ROW_WIDTH;
+use sheet::forms::TRAILER_LENGTH;
 use sheet::judging::judge;
 use sheet::readers::found;
 use sheet::readers::head_code;
+use sheet::readers::is_bad;
 use sheet::readers::row_code;
 use sheet::readers::row_twin;
-use sheet::rows::ROW_WIDTH;
-use sheet::rows::TRAILER_LENGTH;
-use sheet::rows::is_bad;
 ghost use mathlib.Core.Path.{_≡_};
 ghost use mathlib.Core.Bool.{true};
 ghost use Prim.Native.Nat.{_+_, _*_, _≤_};
@@ -22,7 +23,7 @@ ghost use lib.ListN.{length};
 ghost use lib.Dec.{eqb};
 ghost use Rattle.filing.specs.Outcomes.{refusal};
 ghost use Rattle.files.specs.Files.{stations, mostStations};
-ghost use Rattle.sheet.specs.Counting.{rows};
+ghost use Rattle.stations.specs.Counting.{rows};
 ghost use Rattle.sheet.specs.Sheets.{sheetOf, rowWidth, sheetLength, foundIn};
 ghost use Rattle.report.specs.Reports.{rowLine, sheetLines, sheetReport, lengthOutcome};
 ghost use Rattle.report.specs.Promises.{Appended, ReportWritten};
@@ -79,11 +80,11 @@ fn put_judged(out: &mut [u8], file: &[u8], sheet: &mut [u8], n: usize) -> usize
     put_sheet(out, sheet, n)
 }
 
-// Room for the sheet of 250 stations.
-fn sheet_space() -> [u8; 508]
+// Room for the longest sheet.
+fn sheet_space() -> [u8; LONGEST_SHEET]
     ensures { λ r. ⌜ sheetLength mostStations ≡ length r ⌝ }
 {
-    [0; 508]
+    [0; LONGEST_SHEET]
 }
 
 // Puts in the lines of a file whose length is right, and answers where they end.

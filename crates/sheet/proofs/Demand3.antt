@@ -10,17 +10,18 @@ use lib.Seq.{length-take-le}
 use Rattle.filing.specs.Outcomes.{ifDone}
 use Rattle.header.specs.Codes.{filedHeaderCode}
 use Rattle.files.specs.Files.{stations, recordAt, withRecord}
-use Rattle.files.proofs.LengthLaws.{done}
+use Rattle.filing.proofs.RefusalLaws.{done, if-done}
 use Rattle.files.proofs.ReplacedLaws.{replaced-record, other-record}
-use Rattle.sheet.specs.Counting.{first, count, rows}
-use Rattle.sheet.specs.Sheets.{form, rowWidth, referenceAt, rowOf, rowIn, bad, headIn, lowestIn, foundIn, sheetOf}
+use Rattle.stations.specs.Counting.{first, count, rows}
+use Rattle.stations.specs.Stations.{referenceAt}
+use Rattle.sheet.specs.Sheets.{form, rowWidth, rowOf, rowIn, bad, headIn, lowestIn, foundIn, sheetOf}
 use Rattle.sheet.specs.Forms.{rowAt, closed}
-use Rattle.sheet.specs.Replacing.{touched, mendedRow, mendedSheet, rowsWritten}
+use Rattle.sheet.specs.Replacing.{mendedRow, mendedSheet, writes, rowsWritten}
 use Rattle.sheet.specs.Calls.{replaceOutcome, replacedFile, replacedSheet, replacedRows, afterAll}
-use Rattle.sheet.proofs.CountLaws.{those, count-those}
+use Rattle.stations.proofs.CountLaws.{those, count-those}
 use Rattle.sheet.proofs.RowLaws.{Wide, length-rows, row-back}
 use Rattle.sheet.proofs.FormLaws.{head-back, rows-back, lowest-whole, found-whole}
-use Rattle.sheet.proofs.RowsMended.{mended-wide}
+use Rattle.sheet.proofs.RowsMended.{mended-wide, header-none}
 use Rattle.sheet.proofs.CallLaws.{allowed, still-judged}
 
 -- A replacement, refused or not, takes the sheet judged from a file to the sheet judged from the file that it leaves,
@@ -66,10 +67,6 @@ module _ (file sheet : List ℕ) (k : ℕ) (r : List ℕ) (accepted : done (repl
 
 -- and, where it is a station,
 module _ (file sheet : List ℕ) (k : ℕ) (r : List ℕ) (accepted : done (replaceOutcome file sheet (suc k) r) ≡ true) where
-  -- the rows that it writes: its own, and later ones that bear its old or its new reference
-  abbrev pub written : ℕ → Bool
-  written = touched (withRecord file (suc k) r) (referenceAt file (suc k)) (suc k)
-
   room : rowWidth * stations file ≤ length sheet
   room = let may = allowed file sheet (suc k) r accepted in omega (arith, may .sizes .sheet-size)
 
@@ -89,15 +86,15 @@ module _ (file sheet : List ℕ) (k : ℕ) (r : List ℕ) (accepted : done (repl
   standing-size = length-rows rowWidth mendedTo (stations file) wide
 
   -- writes each of them by the new file,
-  pub own-rows : (i : ℕ) → i < stations file → written (suc i) ≡ true → rowIn (replacedSheet file sheet (suc k) r) (suc i) ≡ rowOf (replacedFile file sheet (suc k) r) (suc i)
-  unfolding rowAt closed mendedRow replacedFile ifDone
+  pub own-rows : (i : ℕ) → i < stations file → writes file (suc k) r (suc i) ≡ true → rowIn (replacedSheet file sheet (suc k) r) (suc i) ≡ rowOf (replacedFile file sheet (suc k) r) (suc i)
+  unfolding rowAt closed mendedRow writes replacedFile ifDone
   own-rows i h w =
       let e : suc i - 1 ≡ i = omega arith in
       rw (ended, e, accepted) (row-back rowWidth mendedTo (stations file) wide i _ h ∙ rw w)
 
   -- keeps every other row,
-  pub other-rows : (i : ℕ) → i < stations file → written (suc i) ≡ false → rowIn (replacedSheet file sheet (suc k) r) (suc i) ≡ rowIn sheet (suc i)
-  unfolding rowAt closed mendedRow
+  pub other-rows : (i : ℕ) → i < stations file → writes file (suc k) r (suc i) ≡ false → rowIn (replacedSheet file sheet (suc k) r) (suc i) ≡ rowIn sheet (suc i)
+  unfolding rowAt closed mendedRow writes
   other-rows i h w =
       let e : suc i - 1 ≡ i = omega arith in
       rw (ended, e) (row-back rowWidth mendedTo (stations file) wide i _ h ∙ rw (w, e))
@@ -114,20 +111,36 @@ module _ (file sheet : List ℕ) (k : ℕ) (r : List ℕ) (accepted : done (repl
   new-found = rw ended (found-whole form (stations file) (headIn sheet (stations file)) (rows mendedTo (stations file)) standing-size (omega arith))
 
   -- and answers how many rows it wrote.
-  pub written-rows : replacedRows file sheet (suc k) r ≡ length (those written (stations file))
+  pub written-rows : replacedRows file sheet (suc k) r ≡ length (those (writes file (suc k) r) (stations file))
   unfolding replacedRows ifDone rowsWritten
-  written-rows = rw accepted (count-those written (stations file))
+  written-rows = rw accepted (count-those (writes file (suc k) r) (stations file))
 
--- A header writes no row.
+-- A header writes no row,
 module _ (file sheet r : List ℕ) (accepted : done (replaceOutcome file sheet 0 r) ≡ true) where
-  pub header-keeps-rows : take (rowWidth * stations file) (replacedSheet file sheet 0 r) ≡ take (rowWidth * stations file) sheet
+  abbrev n : ℕ
+  n = stations file
+
+  standing : length (take (rowWidth * n) sheet) ≡ rowWidth * n
+  standing = let may = allowed file sheet 0 r accepted in length-take-le (rowWidth * n) sheet (omega (arith, may .sizes .sheet-size))
+
+  closed-so : replacedSheet file sheet 0 r ≡ closed form n (filedHeaderCode r n) (take (rowWidth * n) sheet)
   unfolding mendedSheet
-  header-keeps-rows =
-      let n = stations file in
-      let may = allowed file sheet 0 r accepted in
-      let wide : length (take (rowWidth * n) sheet) ≡ rowWidth * n = length-take-le (rowWidth * n) sheet (omega (arith, may .sizes .sheet-size)) in
-      rw (mended file sheet 0 r accepted) (rows-back form n (filedHeaderCode r n) (take (rowWidth * n) sheet) wide)
+  closed-so = mended file sheet 0 r accepted
+
+  pub header-keeps-rows : take (rowWidth * n) (replacedSheet file sheet 0 r) ≡ take (rowWidth * n) sheet
+  header-keeps-rows = rw closed-so (rows-back form n (filedHeaderCode r n) (take (rowWidth * n) sheet) standing)
 
   pub header-writes-none : replacedRows file sheet 0 r ≡ 0
-  unfolding replacedRows ifDone rowsWritten
-  header-writes-none = rw accepted
+  unfolding replacedRows
+  header-writes-none = if-done (replaceOutcome file sheet 0 r) (rowsWritten n file 0 r) 0 accepted ∙ header-none n file r
+
+  -- has its code judged anew,
+  pub new-head : headIn (replacedSheet file sheet 0 r) n ≡ filedHeaderCode r n
+  new-head = rw closed-so (head-back form n (filedHeaderCode r n) (take (rowWidth * n) sheet) standing)
+
+  -- and the trailer says the lowest bad row and the number of bad rows that stand.
+  pub header-lowest : lowestIn (replacedSheet file sheet 0 r) n ≡ first (bad (replacedSheet file sheet 0 r)) n
+  header-lowest = rw closed-so (lowest-whole form n (filedHeaderCode r n) (take (rowWidth * n) sheet) standing (omega arith))
+
+  pub header-found : foundIn (replacedSheet file sheet 0 r) n ≡ count (bad (replacedSheet file sheet 0 r)) n
+  header-found = rw closed-so (found-whole form n (filedHeaderCode r n) (take (rowWidth * n) sheet) standing (omega arith))

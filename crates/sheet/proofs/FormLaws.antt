@@ -9,9 +9,9 @@ use native.Mathlib.Omega.{arith}
 use lib.ListN.{length, getD, take, drop, length-append, length-drop}
 use lib.Seq.{drop-drop, drop-at, take-at, getD-append-add, take-append-le, drop-append-le, take-take, getD-take, getD-drop}
 use Rattle.columns.specs.Texts.{same}
-use Rattle.sheet.specs.Counting.{first, count}
+use Rattle.stations.specs.Counting.{first, count}
 use Rattle.sheet.specs.Forms.{Form, codeIn, numberIn, spread, number, numbers, valueFrom, rowBytes, trailerBytes, sheetBytes, rowAt, badAt, shape, trailerOf, closed, headAt, lowestAt, foundAt, fitsForm}
-use Rattle.sheet.proofs.CountLaws.{first-cong, count-cong}
+use Rattle.stations.proofs.CountLaws.{first-cong, count-cong}
 use Rattle.sheet.proofs.TwinLaws.{same-refl}
 
 -- A number in b bytes has b bytes,

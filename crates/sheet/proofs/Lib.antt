@@ -1,9 +1,8 @@
-pub mod CountLaws
 pub mod RowLaws
 pub mod TwinLaws
-pub mod CodeLaws
 pub mod FormLaws
 pub mod SheetLaws
+pub mod ReaderLaws
 pub mod RowsMended
 pub mod LocalLaws
 pub mod MendForm

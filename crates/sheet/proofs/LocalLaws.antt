@@ -14,8 +14,8 @@ use Rattle.columns.specs.Texts.{same}
 use Rattle.files.specs.Files.{recordAt, withRecord}
 use Rattle.files.proofs.ReplacedLaws.{replaced-record, other-record}
 use Rattle.files.proofs.LengthLaws.{not-both, or-false}
-use Rattle.sheet.specs.Counting.{first, rows}
-use Rattle.sheet.proofs.CountLaws.{first-cong}
+use Rattle.stations.specs.Counting.{first, rows}
+use Rattle.stations.proofs.CountLaws.{first-cong}
 use Rattle.sheet.proofs.RowLaws.{Wide, rows-cong, mended-rows}
 use Rattle.sheet.proofs.TwinLaws.{same-refl, same-true, same-sym}
 

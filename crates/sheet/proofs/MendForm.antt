@@ -6,7 +6,7 @@ use mathlib.Core.List.{List}
 use Prim.Native.Nat.{ℕ, _+_, _*_, _≤_}
 use lib.ListN.{length, take}
 use Rattle.files.specs.Files.{recordAt, withRecord}
-use Rattle.sheet.specs.Counting.{rows}
+use Rattle.stations.specs.Counting.{rows}
 use Rattle.sheet.specs.Forms.{Form, rowAt, closed}
 use Rattle.sheet.proofs.RowLaws.{Wide, length-rows}
 use Rattle.sheet.proofs.FormLaws.{rows-back}

@@ -12,8 +12,9 @@ use Rattle.station.specs.Codes.{stationCode}
 use Rattle.header.specs.Codes.{filedHeaderCode}
 use Rattle.files.specs.Files.{recordAt, withRecord}
 use Rattle.files.proofs.ReplacedLaws.{replaced-record}
-use Rattle.sheet.specs.Counting.{rows}
-use Rattle.sheet.specs.Sheets.{form, rowWidth, codeAt, referenceAt, twinAt, rowOf, withTrailer, judgedSheet}
+use Rattle.stations.specs.Counting.{rows}
+use Rattle.stations.specs.Stations.{codeAt, referenceAt}
+use Rattle.sheet.specs.Sheets.{form, rowWidth, twinAt, rowOf, withTrailer, judgedSheet}
 use Rattle.sheet.specs.Forms.{rowBytes}
 use Rattle.sheet.specs.Replacing.{touched, mendedRow, mendedSheet}
 use Rattle.sheet.proofs.LocalLaws.{Local, own-local, lowest-local, both-local, kept-record}

@@ -10,7 +10,7 @@ use native.Mathlib.Numerals.{add-one}
 use native.Mathlib.Omega.{arith}
 use lib.ListN.{length, take, drop, length-append, take-append-drop}
 use lib.Seq.{take-at, drop-at, drop-drop}
-use Rattle.sheet.specs.Counting.{rows}
+use Rattle.stations.specs.Counting.{rows}
 
 -- rows that agree
 pub rows-cong : (f g : ℕ → List ℕ) (n : ℕ) → ((i : ℕ) → i < n → f (suc i) ≡ g (suc i)) → rows f n ≡ rows g n

@@ -8,10 +8,12 @@ use native.Mathlib.Omega.{arith}
 use lib.ListN.{length, take, drop, length-drop}
 use lib.Seq.{length-take-le}
 use Rattle.files.specs.Files.{withRecord}
-use Rattle.sheet.specs.Counting.{count, rows}
-use Rattle.sheet.specs.Sheets.{rowWidth, referenceAt, rowOf, headIn, withTrailer}
+use Rattle.stations.specs.Counting.{count, rows}
+use Rattle.stations.specs.Stations.{referenceAt}
+use Rattle.stations.proofs.CountLaws.{count-none}
+use Rattle.sheet.specs.Sheets.{rowWidth, rowOf, headIn, withTrailer}
 use Rattle.sheet.specs.Forms.{rowAt}
-use Rattle.sheet.specs.Replacing.{touched, mendedRow, mendedSheet, rowsWritten}
+use Rattle.sheet.specs.Replacing.{touched, mendedRow, mendedSheet, writes, rowsWritten}
 use Rattle.sheet.proofs.RowLaws.{Wide, take-rows, row-put, row-kept}
 use Rattle.sheet.proofs.SheetLaws.{rows-wide}
 
@@ -49,11 +51,16 @@ by-suc : (P : ℕ → Type 0) → ((j : ℕ) → P (suc j)) → (k : ℕ) → 1 
 by-suc P h zero l = absurd (omega arith)
 by-suc P h (suc k) l = h k
 
+-- A header writes no row.
+pub header-none : (n : ℕ) (file r : List ℕ) → rowsWritten n file 0 r ≡ 0
+unfolding rowsWritten writes
+header-none n file r = count-none (writes file 0 r) n (λ i. refl)
+
 -- A station's replacement, from what the steps leave: the new file, the old reference, the rows that stand.
 module _ (file sheet : List ℕ) (k : ℕ) (r : List ℕ) (n : ℕ) where
   -- what is said of a station is said of every number but 0
   written-so : 1 ≤ k → rowsWritten n file k r ≡ count (touched (withRecord file k r) (referenceAt file k) k) n
-  unfolding rowsWritten
+  unfolding rowsWritten writes
   written-so h = by-suc (λ (k : ℕ). rowsWritten n file k r ≡ count (touched (withRecord file k r) (referenceAt file k) k) n) (λ j. refl) k h
 
   mended-station : 1 ≤ k → mendedSheet n file sheet k r ≡ withTrailer n (headIn sheet n) (rows (mendedRow (withRecord file k r) (referenceAt file k) k sheet) n)

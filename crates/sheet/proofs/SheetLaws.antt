@@ -12,9 +12,10 @@ use lib.Dec.{eqb}
 use Rattle.columns.specs.Texts.{every}
 use Rattle.header.specs.Codes.{filedHeaderCode}
 use Rattle.files.specs.Files.{recordAt}
-use Rattle.sheet.specs.Counting.{count, rows}
+use Rattle.stations.specs.Counting.{count, rows}
 use Rattle.sheet.specs.Forms.{rowAt, badAt}
-use Rattle.sheet.specs.Sheets.{form, rowWidth, sheetLength, codeAt, twinAt, rowOf, bad, judgedSheet, headIn, foundIn, trailerFits}
+use Rattle.stations.specs.Stations.{codeAt}
+use Rattle.sheet.specs.Sheets.{form, rowWidth, sheetLength, twinAt, rowOf, bad, judgedSheet, headIn, foundIn, trailerFits}
 use Rattle.sheet.proofs.RowLaws.{Wide, length-rows}
 use Rattle.sheet.proofs.FormLaws.{row-length, rows-back, head-back, fits-back, found-whole, closed-length}
 

@@ -13,9 +13,10 @@ use Rattle.columns.specs.Texts.{same}
 use Rattle.station.specs.Places.{fieldsOf}
 use Rattle.files.specs.Files.{recordAt}
 use Rattle.files.proofs.FileLaws.{record-wide}
-use Rattle.sheet.specs.Counting.{first}
-use Rattle.sheet.specs.Sheets.{referenceAt, twinAt}
-use Rattle.sheet.proofs.CountLaws.{first-found}
+use Rattle.stations.specs.Counting.{first}
+use Rattle.stations.specs.Stations.{referenceAt}
+use Rattle.sheet.specs.Sheets.{twinAt}
+use Rattle.stations.proofs.CountLaws.{first-found}
 
 -- A text is the same as itself,
 pub same-refl : (a : List ℕ) → same a a ≡ true
@@ -49,11 +50,6 @@ abbrev pub bearsSame : List ℕ → ℕ → ℕ → Bool
 bearsSame file k i = same (referenceAt file i) (referenceAt file k)
 
 module _ (file : List ℕ) (k : ℕ) where
-  -- the reference of a record that is wholly there
-  pub reference-wide : 219 * k + 219 ≤ length file → length (referenceAt file k) ≡ 15
-  unfolding referenceAt fieldsOf
-  reference-wide h = length-take-le 15 (drop 204 (recordAt file k)) (rw (length-drop, record-wide file k h) (omega arith))
-
   -- a search that has found none so far
   module _ (i : ℕ) (none : first (bearsSame file k) i ≡ 0) where
     pub twin-found : i + 1 < k → same (referenceAt file (i + 1)) (referenceAt file k) ≡ true → i + 1 ≡ twinAt file k

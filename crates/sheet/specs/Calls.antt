@@ -1,38 +1,33 @@
 -- Document 01, "Refusal numbers": how the calls on sheets end, and what they hand back and leave.
 use Prim.Native.Nat.{ℕ}
-use mathlib.Core.Bool.{cond}
-use mathlib.Core.List.{List, [], _∷_}
+use mathlib.Core.Bool.{not}
+use mathlib.Core.List.{List, [], _∷_, _++_}
 use Rattle.columns.specs.Texts.{sized}
-use Rattle.filing.specs.Fields.{recordLength}
-use Rattle.filing.specs.Outcomes.{ifDone}
+use Rattle.filing.specs.Outcomes.{ifDone, Test, when, firstRefusal, recordTest}
 use Rattle.filing.specs.declared.Outcome.{Outcome}
 use Rattle.filing.specs.declared.Outcome.the-variants as outcome
 use Rattle.files.specs.Files.{stations, withRecord}
-use Rattle.files.specs.Calls.{fileOutcome, numberOutcome}
+use Rattle.files.specs.Calls.{fileTests, numberTest}
 use Rattle.sheet.specs.Sheets.{sheetLength, sheetOf, trailerFits}
 use Rattle.sheet.specs.Replacing.{mendedSheet, rowsWritten}
 
--- The lent sheet is not exactly 2n + 8 bytes.
-abbrev pub sheetOutcome : List ℕ → List ℕ → Outcome → Outcome
-sheetOutcome file sheet rest = cond (sized (sheetLength (stations file)) sheet) rest outcome.SheetLength
+-- Judging asks 1 to 3: the file's length, and whether the lent sheet is exactly as long as one of its n stations.
+abbrev pub judgeTests : List ℕ → List ℕ → List Test
+judgeTests file sheet = fileTests file ++ (when (not (sized (sheetLength (stations file)) sheet)) outcome.SheetLength ∷ [])
 
--- Judging uses 1 to 3.
 unfoldable pub judgeOutcome : List ℕ → List ℕ → Outcome
-judgeOutcome file sheet = fileOutcome file (sheetOutcome file sheet outcome.Done)
+judgeOutcome file sheet = firstRefusal (judgeTests file sheet)
 
 -- It leaves the sheet judged from the file, and on a refusal every byte as it was.
 unfoldable pub judgedInto : List ℕ → List ℕ → List ℕ
 judgedInto file sheet = ifDone (judgeOutcome file sheet) (sheetOf file) sheet
 
--- Replacing uses 1 to 6. A record of 219 bytes that breaks rules is put in.
+-- Replacing asks 4 to 6 after them. A record of 219 bytes that breaks rules is put in.
+abbrev pub trailerTest : List ℕ → List ℕ → Test
+trailerTest file sheet = when (not (trailerFits sheet (stations file))) outcome.SheetTrailer
+
 unfoldable pub replaceOutcome : List ℕ → List ℕ → ℕ → List ℕ → Outcome
-replaceOutcome file sheet k r =
-    fileOutcome file
-    (sheetOutcome file sheet
-    (cond (trailerFits sheet (stations file))
-    (numberOutcome file k
-    (cond (sized recordLength r) outcome.Done outcome.RecordLength))
-    outcome.SheetTrailer))
+replaceOutcome file sheet k r = firstRefusal (judgeTests file sheet ++ (trailerTest file sheet ∷ numberTest file k ∷ recordTest r ∷ []))
 
 -- It leaves the record in the file,
 unfoldable pub replacedFile : List ℕ → List ℕ → ℕ → List ℕ → List ℕ

@@ -6,7 +6,7 @@ use mathlib.Core.List.{List, [], _∷_, _++_}
 use lib.ListN.{getD, take, drop}
 use lib.Dec.{eqb}
 use Rattle.columns.specs.Texts.{every, same}
-use Rattle.sheet.specs.Counting.{first, count}
+use Rattle.stations.specs.Counting.{first, count}
 
 -- A form of sheets: bytes of a row, bytes of a number, and the mark that ends a sheet.
 pub record Form : Type 0 where

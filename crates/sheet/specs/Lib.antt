@@ -1,4 +1,3 @@
-pub mod Counting
 pub mod Forms
 pub mod Sheets
 pub mod Replacing

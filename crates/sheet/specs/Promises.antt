@@ -1,12 +1,14 @@
 -- What the calls on sheets promise, as relations between what they are given, their answers and what they leave in the lent bytes.
 use Prim.Native.Nat.{ℕ, _+_, _*_, _≤_}
 use mathlib.Core.Path.{_≡_}
+use mathlib.Core.Bool.{Bool}
 use mathlib.Core.List.{List}
 use lib.ListN.{length}
 use Rattle.filing.specs.declared.Outcome.{Outcome}
 use Rattle.filing.specs.Fields.{recordLength}
 use Rattle.files.specs.Files.{mostStations}
-use Rattle.sheet.specs.Sheets.{sheetLength, sheetOf}
+use Rattle.sheet.specs.Forms.{codeIn}
+use Rattle.sheet.specs.Sheets.{sheetLength, rowsIn, rowIn, twinIn, bad, headIn, lowestIn, foundIn, sheetOf}
 use Rattle.sheet.specs.Calls.{judgeOutcome, judgedInto, replaceOutcome, replacedFile, replacedSheet, replacedRows}
 use Rattle.sheet.specs.declared.replacing.Replaced.{Replaced}
 
@@ -31,3 +33,27 @@ pub record Sized (file sheet : List ℕ) (n : ℕ) : Type 0 where
   pub most : n ≤ mostStations
   pub file-size : length file ≡ recordLength * n + recordLength
   pub sheet-size : length sheet ≡ sheetLength n
+
+-- `rows_in`: how many rows a sheet has.
+abbrev pub RowsCounted : List ℕ → ℕ → Type 0
+RowsCounted sheet answer = answer ≡ rowsIn sheet
+
+-- `row_code`, `row_twin`, `is_bad`: what row i + 1 of a sheet says.
+abbrev pub RowCodeRead : List ℕ → ℕ → ℕ → Type 0
+RowCodeRead sheet i answer = answer ≡ codeIn (rowIn sheet (i + 1))
+
+abbrev pub RowTwinRead : List ℕ → ℕ → ℕ → Type 0
+RowTwinRead sheet i answer = answer ≡ twinIn sheet (i + 1)
+
+abbrev pub RowBadRead : List ℕ → ℕ → Bool → Type 0
+RowBadRead sheet i answer = answer ≡ bad sheet (i + 1)
+
+-- `head_code`, `lowest`, `found`: what the trailer behind n rows says.
+abbrev pub HeadRead : List ℕ → ℕ → ℕ → Type 0
+HeadRead sheet n answer = answer ≡ headIn sheet n
+
+abbrev pub LowestRead : List ℕ → ℕ → ℕ → Type 0
+LowestRead sheet n answer = answer ≡ lowestIn sheet n
+
+abbrev pub FoundRead : List ℕ → ℕ → ℕ → Type 0
+FoundRead sheet n answer = answer ≡ foundIn sheet n

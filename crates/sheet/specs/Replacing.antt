@@ -1,14 +1,15 @@
 -- Document 01, "Replacing": what stands after record number k is put in. The file is the new one, and old is the 13X that station k had before.
 use Prim.Native.Nat.{ℕ, zero, suc, _*_}
-use mathlib.Core.Bool.{Bool, cond, _&&_, _||_}
+use mathlib.Core.Bool.{Bool, false, cond, _&&_, _||_}
 use mathlib.Core.List.{List}
 use lib.ListN.{take}
 use lib.Dec.{leb}
 use Rattle.columns.specs.Texts.{same}
 use Rattle.header.specs.Codes.{filedHeaderCode}
-use Rattle.sheet.specs.Counting.{count, rows}
+use Rattle.stations.specs.Counting.{count, rows}
 use Rattle.files.specs.Files.{withRecord}
-use Rattle.sheet.specs.Sheets.{rowWidth, referenceAt, rowOf, rowIn, withTrailer, headIn}
+use Rattle.stations.specs.Stations.{referenceAt}
+use Rattle.sheet.specs.Sheets.{rowWidth, rowOf, rowIn, withTrailer, headIn}
 
 -- Row j is written: row k, and every later row whose 13X equals the old or the new 13X of k, equal or not.
 unfoldable pub touched : List ℕ → List ℕ → ℕ → ℕ → Bool
@@ -24,7 +25,11 @@ mendedSheet n file sheet zero r = withTrailer n (filedHeaderCode r n) (take (row
 mendedSheet n file sheet (suc k) r =
     withTrailer n (headIn sheet n) (rows (mendedRow (withRecord file (suc k) r) (referenceAt file (suc k)) (suc k) sheet) n)
 
--- How many rows that writes.
+-- The rows that putting in record r as number k writes: none for a header, and for a station those that it touches,
+unfoldable pub writes : List ℕ → ℕ → List ℕ → ℕ → Bool
+writes file zero r j = false
+writes file (suc k) r j = touched (withRecord file (suc k) r) (referenceAt file (suc k)) (suc k) j
+
+-- and how many of n rows these are.
 unfoldable pub rowsWritten : ℕ → List ℕ → ℕ → List ℕ → ℕ
-rowsWritten n file zero r = 0
-rowsWritten n file (suc k) r = count (touched (withRecord file (suc k) r) (referenceAt file (suc k)) (suc k)) n
+rowsWritten n file k r = count (writes file k r) n

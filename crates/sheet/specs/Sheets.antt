@@ -1,14 +1,13 @@
 -- Document 01, "The sheet": a row for each station and the trailer. What is said of rows holds for any width.
-use Prim.Native.Nat.{ℕ, _+_, _-_, _*_}
+use Prim.Native.Nat.{ℕ, _+_, _-_, _*_, _/_}
 use mathlib.Core.Bool.{Bool}
 use mathlib.Core.List.{List, [], _∷_}
+use lib.ListN.{length}
 use Rattle.columns.specs.Texts.{bytes, same}
-use Rattle.filing.specs.Fields.{at}
-use Rattle.station.specs.Places.{fieldsOf}
-use Rattle.station.specs.Codes.{stationCode}
 use Rattle.header.specs.Codes.{filedHeaderCode}
 use Rattle.files.specs.Files.{stations, recordAt}
-use Rattle.sheet.specs.Counting.{first, rows}
+use Rattle.stations.specs.Counting.{first, rows}
+use Rattle.stations.specs.Stations.{codeAt, referenceAt}
 use Rattle.sheet.specs.Forms.{Form, trailerBytes, sheetBytes, rowBytes, numberIn, rowAt, badAt, closed, headAt, lowestAt, foundAt, fitsForm}
 
 -- The form of sheets: a row is its code and m numbers of b bytes each.
@@ -34,15 +33,11 @@ trailerLength = trailerBytes form
 abbrev pub sheetLength : ℕ → ℕ
 sheetLength n = sheetBytes form n
 
--- Station k's code,
-unfoldable pub codeAt : List ℕ → ℕ → ℕ
-codeAt file k = stationCode (recordAt file k)
+-- How many rows a sheet has before its trailer.
+unfoldable pub rowsIn : List ℕ → ℕ
+rowsIn sheet = (length sheet - trailerLength) / rowWidth
 
--- its 13X,
-unfoldable pub referenceAt : List ℕ → ℕ → List ℕ
-referenceAt file k = at (fieldsOf (recordAt file k)) 30
-
--- and its twin: the lowest i below k whose 13X bytes equal those of k, else 0; records that break rules count too.
+-- Station k's twin: the lowest i below k whose 13X bytes equal those of k, else 0; records that break rules count too.
 unfoldable pub twinAt : List ℕ → ℕ → ℕ
 twinAt file k = first (λ i. same (referenceAt file i) (referenceAt file k)) (k - 1)
 

@@ -1,33 +1,22 @@
 // Judging: the whole sheet of a file.
-use crate::rows::ROW_WIDTH;
-use crate::rows::TRAILER_LENGTH;
+use crate::forms::ROW_WIDTH;
+use crate::forms::TRAILER_LENGTH;
 use crate::rows::put_row;
 use crate::trailers::put_trailer;
 use files::lengths::check_file;
 use files::lengths::record_in;
 use files::lengths::stations_in;
 use filing::Outcome;
-use filing::outcomes::code_with;
 use filing::outcomes::is_done;
-use header::judging::check_filed_header;
+use header::judging::filed_header_code;
 ghost use mathlib.Core.Path.{_≡_};
 ghost use mathlib.Core.List.{_++_};
 ghost use Prim.Native.Nat.{_*_};
-ghost use lib.ListN.{length, drop};
-ghost use Rattle.header.specs.Codes.{filedHeaderCode};
-ghost use Rattle.sheet.specs.Counting.{rows};
+ghost use lib.ListN.{drop};
+ghost use Rattle.stations.specs.Counting.{rows};
 ghost use Rattle.sheet.specs.Sheets.{rowOf, judgedSheet, rowWidth};
 ghost use Rattle.sheet.specs.Calls.{judgeOutcome};
 ghost use Rattle.sheet.specs.Promises.{SheetJudged, Sized};
-ghost use Rattle.filing.specs.Fields.{recordLength};
-
-// The code of a header in a file of n stations.
-pub(crate) fn header_code(rec: &[u8], n: usize) -> u8
-    requires { ⌜ length (now rec) ≡ recordLength ⌝ }
-    ensures { λ r. ⌜ r ≡ filedHeaderCode (now (rec .entry)) n ⌝ }
-{
-    code_with(check_filed_header(rec, n))
-}
 
 // Writes the rows of all n stations.
 fn put_rows(file: &[u8], sheet: &mut [u8], n: usize)
@@ -47,7 +36,7 @@ fn judge_sized(file: &[u8], sheet: &mut [u8], n: usize)
     ensures { λ _. ⌜ now (sheet .exit) ≡ judgedSheet (now (file .entry)) n ⌝ }
 {
     put_rows(file, sheet, n);
-    let head = header_code(record_in(file, 0), n);
+    let head = filed_header_code(record_in(file, 0), n);
     put_trailer(sheet, n, head);
 }
 

@@ -1,22 +1,22 @@
 // Replacing a record, and mending the sheet.
-use crate::judging::header_code;
 use crate::judging::judge_outcome;
-use crate::rows::HEAD_PLACE;
-use crate::rows::ROW_WIDTH;
+use crate::readers::head_code;
 use crate::rows::put_row;
 use crate::trailers::fits_trailer;
 use crate::trailers::put_trailer;
-use crate::twins::reference;
 use columns::texts::equal;
+use files::lengths::RECORD_LENGTH;
 use files::lengths::stations_in;
 use filing::Outcome;
 use filing::outcomes::is_done;
+use header::judging::filed_header_code;
+use stations::reference;
 ghost use mathlib.Core.Path.{_≡_};
 ghost use mathlib.Core.List.{_++_};
 ghost use Prim.Native.Nat.{_+_, _*_, _≤_};
 ghost use lib.ListN.{length, drop};
 ghost use Rattle.files.specs.Files.{withRecord};
-ghost use Rattle.sheet.specs.Counting.{rows, count};
+ghost use Rattle.stations.specs.Counting.{rows, count};
 ghost use Rattle.sheet.specs.Replacing.{touched, mendedRow, mendedSheet, rowsWritten};
 ghost use Rattle.sheet.specs.Calls.{replaceOutcome};
 ghost use Rattle.sheet.specs.Promises.{RecordReplaced, StillJudged, Sized};
@@ -69,8 +69,8 @@ fn put_record(file: &mut [u8], k: usize, rec: &[u8])
     requires { ⌜ (recordLength * k + recordLength ≤ length (now file)) × (length (now rec) ≡ recordLength) ⌝ }
     ensures { λ _. ⌜ now (file .exit) ≡ withRecord (now (file .entry)) k (now (rec .entry)) ⌝ }
 {
-    let start = 219 * k;
-    let end = start + 219;
+    let start = RECORD_LENGTH * k;
+    let end = start + RECORD_LENGTH;
     bytes::copy(rec, &mut file[start..end]);
 }
 
@@ -81,7 +81,7 @@ fn replace_header(file: &mut [u8], sheet: &mut [u8], n: usize, rec: &[u8])
     ensures { λ _. ⌜ now (file .exit) ≡ withRecord (now (file .entry)) 0 (now (rec .entry)) ⌝ }
     ensures { λ _. ⌜ now (sheet .exit) ≡ mendedSheet n (now (file .entry)) (now (sheet .entry)) 0 (now (rec .entry)) ⌝ }
 {
-    let head = header_code(rec, n);
+    let head = filed_header_code(rec, n);
     put_record(file, 0, rec);
     put_trailer(sheet, n, head);
 }
@@ -96,8 +96,7 @@ fn replace_station(file: &mut [u8], sheet: &mut [u8], n: usize, k: usize, rec: &
 {
     let mut old = [0u8; 15];
     bytes::copy(reference(file, k), &mut old);
-    let at = ROW_WIDTH * n + HEAD_PLACE;
-    let head = sheet[at];
+    let head = head_code(sheet, n);
     put_record(file, k, rec);
     let written = mend_rows(file, sheet, n, k, &old);
     put_trailer(sheet, n, head);
@@ -119,7 +118,7 @@ fn replace_outcome(file: &[u8], sheet: &[u8], k: usize, rec: &[u8]) -> Outcome
     if k > n {
         return Outcome::NoSuchRecord;
     }
-    if rec.len() != 219 {
+    if rec.len() != RECORD_LENGTH {
         return Outcome::RecordLength;
     }
     Outcome::Done

@@ -1,15 +1,15 @@
 // The trailer: what a sheet says of itself, its header, and the rows that stand.
-use crate::rows::HEAD_PLACE;
-use crate::rows::MARK_PLACE;
-use crate::rows::ROW_WIDTH;
-use crate::rows::TRAILER_LENGTH;
-use crate::rows::WIDTH_BYTE;
-use crate::rows::is_bad;
+use crate::forms::HEAD_PLACE;
+use crate::forms::MARK_PLACE;
+use crate::forms::ROW_WIDTH;
+use crate::forms::TRAILER_LENGTH;
+use crate::forms::WIDTH_BYTE;
+use crate::readers::is_bad;
 use columns::texts::equal;
 ghost use mathlib.Core.Path.{_≡_};
 ghost use Prim.Native.Nat.{_+_, _*_, _≤_};
 ghost use lib.ListN.{length, take};
-ghost use Rattle.sheet.specs.Counting.{first, count};
+ghost use Rattle.stations.specs.Counting.{first, count};
 ghost use Rattle.sheet.specs.Sheets.{bad, withTrailer, trailerFits, rowWidth, sheetLength};
 ghost use Rattle.files.specs.Files.{mostStations};
 

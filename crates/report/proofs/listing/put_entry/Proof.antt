@@ -25,8 +25,8 @@ part-record-to-line-end c = search needs
 record-to-line-requires : tie.Need-record-to-line-requires
 record-to-line-requires c κs = search needs
 
-listed-code-requires : tie.Need-listed-code-requires
-listed-code-requires c κs = search needs
+code-with-requires : tie.Need-code-with-requires
+code-with-requires c κs = search needs
 
 cast-put-broken : tie.Need-cast-put-broken
 cast-put-broken c = search needs
@@ -41,13 +41,13 @@ returns : tie.Need-returns
 returns c =
     let start = c .before .before .before .before .before .before .before .before .before .before .before .before .before in
     let a = start .args in
-    (broken-put (now (a .file)) (now (a .out)) (a .start) (a .i + 1) (start .pre .1 .1) (start .pre .0) _ _ _ _ (c .before .before .before .before .before .before .before .before .before .before .record-in .ensures .0) (c .before .before .before .before .before .before .before .before .record-to-line .ensures) (c .before .before .before .before .before .listed-code .ensures) (λ z. omega (arith, z, c .before .before .before .before .if1 .taken)) (c .before .before .put-broken .ensures .0), search needs)
+    (broken-put (now (a .file)) (now (a .out)) (a .start) (a .i + 1) (start .pre .1 .1) (start .pre .0) _ _ _ _ (c .before .before .before .before .before .before .before .before .before .before .record-in .ensures .0) (c .before .before .before .before .before .before .before .before .record-to-line .ensures) (c .before .before .before .before .before .code-with .ensures) (λ z. omega (arith, z, c .before .before .before .before .if1 .taken)) (c .before .before .put-broken .ensures .0), search needs)
 
 add-result : tie.Need-add-result
 add-result c =
     let start = c .before .before .before .before .before .before .before .before .before .before in
     let a = start .args in
-    let put = line-put (now (a .file)) (now (a .out)) (a .start) (a .i + 1) (start .pre .1 .1) (start .pre .0) _ _ _ _ (c .before .before .before .before .before .before .before .record-in .ensures .0) (c .before .before .before .before .before .record-to-line .ensures) (c .before .before .listed-code .ensures) (omega (arith, c .before .if1 .left)) in
+    let put = line-put (now (a .file)) (now (a .out)) (a .start) (a .i + 1) (start .pre .1 .1) (start .pre .0) _ _ _ _ (c .before .before .before .before .before .before .before .record-in .ensures .0) (c .before .before .before .before .before .record-to-line .ensures) (c .before .before .code-with .ensures) (omega (arith, c .before .if1 .left)) in
     omega (arith, put .1)
 
 same-length-2 : tie.Need-same-length-2
@@ -57,7 +57,7 @@ returns-2 : tie.Need-returns-2
 returns-2 c =
     let start = c .before .before .before .before .before .before .before .before .before .before in
     let a = start .args in
-    let put = line-put (now (a .file)) (now (a .out)) (a .start) (a .i + 1) (start .pre .1 .1) (start .pre .0) _ _ _ _ (c .before .before .before .before .before .before .before .record-in .ensures .0) (c .before .before .before .before .before .record-to-line .ensures) (c .before .before .listed-code .ensures) (omega (arith, c .before .if1 .left)) in
+    let put = line-put (now (a .file)) (now (a .out)) (a .start) (a .i + 1) (start .pre .1 .1) (start .pre .0) _ _ _ _ (c .before .before .before .before .before .before .before .record-in .ensures .0) (c .before .before .before .before .before .record-to-line .ensures) (c .before .before .code-with .ensures) (omega (arith, c .before .if1 .left)) in
     (put .0, omega (arith, put .1))
 
 pub put-entry-spec : {M : Type 1} → statement M
@@ -70,7 +70,7 @@ put-entry-spec =
     part-record-to-line-start
     part-record-to-line-end
     record-to-line-requires
-    listed-code-requires
+    code-with-requires
     cast-put-broken
     put-broken-requires
     same-length

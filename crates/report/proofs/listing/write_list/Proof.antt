@@ -5,7 +5,7 @@ use Prim.Native.Nat.{ℕ}
 use Rattle.filing.specs.Outcomes.{refusal}
 use Rattle.filing.specs.declared.Outcome.{Outcome}
 use Rattle.filing.specs.declared.Outcome.the-variants as outcome
-use Rattle.files.proofs.LengthLaws.{whole-records}
+use Rattle.files.proofs.LengthLaws.{length-passed, whole-records}
 use Rattle.report.specs.Lines.{refusedLine}
 use Rattle.report.specs.Reports.{lengthOutcome}
 use Rattle.report.proofs.ReportLaws.{turned-away, taken, refused-list, whole-list, written}
@@ -40,7 +40,7 @@ stations-in-requires c κs = search needs
 put-entries-requires : tie.Need-put-entries-requires
 put-entries-requires c κs =
     let file = now (c .before .before .before .before .before .before .args .file) in
-    let whole = whole-records file outcome.Done (taken file (c .before .before .before .before .check-file .ensures) (c .before .before .before .is-done .ensures) (c .before .before .if1 .left)) in
+    let whole = whole-records file (length-passed file (taken file (c .before .before .before .before .check-file .ensures) (c .before .before .before .is-done .ensures) (c .before .before .if1 .left))) in
     rw (c .stations-in .ensures) (whole .0, omega (arith, whole .1), omega (arith, whole .0))
 
 returns-2 : tie.Need-returns-2

@@ -3,7 +3,7 @@ use denote.Ref.{now}
 use mathlib.Core.Path.{_≡_}
 use Prim.Native.Nat.{_+_, _-_, _*_, _≤_}
 use lib.ListN.{length}
-use Rattle.sheet.specs.Counting.{rows}
+use Rattle.stations.specs.Counting.{rows}
 use Rattle.report.specs.Reports.{rowLine}
 use Rattle.report.specs.Promises.{Appended}
 use Rattle.report.proofs.AppendLaws.{none, then}

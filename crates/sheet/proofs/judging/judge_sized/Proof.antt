@@ -21,8 +21,8 @@ put-rows-requires c κs = search needs
 record-in-requires : tie.Need-record-in-requires
 record-in-requires c κs = search needs
 
-header-code-requires : tie.Need-header-code-requires
-header-code-requires c κs = ap length (c .record-in .ensures .0) ∙ record-wide (now (c .before .before .before .before .before .before .before .args .file)) 0 (omega arith)
+filed-header-code-requires : tie.Need-filed-header-code-requires
+filed-header-code-requires c κs = ap length (c .record-in .ensures .0) ∙ record-wide (now (c .before .before .before .before .before .before .before .args .file)) 0 (omega arith)
 
 put-trailer-requires : tie.Need-put-trailer-requires
 put-trailer-requires c κs = search needs
@@ -35,8 +35,8 @@ unfolding judgedSheet
 returns c =
     let a = c .before .before .before .before .before .before .before .before .before .before .before .before .args in
     let file = now (a .file) in
-    let head : c .before .before .before .before .header-code .result ≡ filedHeaderCode (recordAt file 0) (a .n) =
-    c .before .before .before .before .header-code .ensures ∙ ap (λ (r : List ℕ). filedHeaderCode r (a .n)) (c .before .before .before .before .before .record-in .ensures .0) in
+    let head : c .before .before .before .before .filed-header-code .result ≡ filedHeaderCode (recordAt file 0) (a .n) =
+    c .before .before .before .before .filed-header-code .ensures ∙ ap (λ (r : List ℕ). filedHeaderCode r (a .n)) (c .before .before .before .before .before .record-in .ensures .0) in
     c .before .before .put-trailer .ensures
     ∙ rw (c .before .before .before .before .before .before .before .before .put-rows .ensures, head, take-rows rowWidth (rowOf file) (a .n) (rows-wide file (a .n)) (drop (rowWidth * a .n) (now (a .sheet))))
 
@@ -46,7 +46,7 @@ judge-sized-spec =
     (tie.spec
     put-rows-requires
     record-in-requires
-    header-code-requires
+    filed-header-code-requires
     put-trailer-requires
     same-length
     returns)

@@ -4,7 +4,7 @@ use mathlib.Core.Path.{_≡_, _∙_}
 use mathlib.Core.List.{_++_}
 use Prim.Native.Nat.{_+_, _-_, _*_, _≤_}
 use lib.ListN.{length, drop}
-use Rattle.sheet.specs.Counting.{rows}
+use Rattle.stations.specs.Counting.{rows}
 use Rattle.sheet.specs.Sheets.{rowOf, rowWidth}
 use Rattle.sheet.proofs.RowLaws.{row-put}
 use Rattle.sheet.proofs.SheetLaws.{rows-wide}

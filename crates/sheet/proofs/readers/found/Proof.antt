@@ -1,21 +1,18 @@
--- `sheet::readers::found` meets its contract: the number at its place. Assumes nothing.
-use Rattle.sheet.specs.Forms.{foundAt}
+-- `sheet::readers::found` meets its contract.
+use mathlib.Core.Path.{_∙_}
+use Rattle.sheet.proofs.ReaderLaws.{found-behind}
 use borrow.Author.Needs.{needs}
 use Rattle.sheet.proofs.readers.found.Statement.{statement}
 use Rattle.sheet.proofs.readers.found.Tie as tie
 
-mul-number : tie.Need-mul-number
-mul-number c = search needs
-
-add-number : tie.Need-add-number
-add-number c = search needs
+behind-requires : tie.Need-behind-requires
+behind-requires c κs = search needs
 
 number-requires : tie.Need-number-requires
 number-requires c κs = search needs
 
 returns : tie.Need-returns
-unfolding foundAt
-returns c = c .number .ensures
+returns c = c .number .ensures ∙ found-behind _ _ (c .before .behind .ensures)
 
 pub found-spec : {M : Type 1} → statement M
-found-spec = tie.close (tie.spec mul-number add-number number-requires returns)
+found-spec = tie.close (tie.spec behind-requires number-requires returns)

@@ -1,22 +1,18 @@
--- `sheet::readers::head_code` meets its contract: the byte at its place. Assumes nothing.
-use mathlib.Core.Path.{refl}
-use Rattle.sheet.specs.Forms.{headAt}
+-- `sheet::readers::head_code` meets its contract.
+use mathlib.Core.Path.{_∙_}
+use Rattle.sheet.proofs.ReaderLaws.{head-behind}
 use borrow.Author.Needs.{needs}
 use Rattle.sheet.proofs.readers.head_code.Statement.{statement}
 use Rattle.sheet.proofs.readers.head_code.Tie as tie
 
-mul-place : tie.Need-mul-place
-mul-place c = search needs
+behind-requires : tie.Need-behind-requires
+behind-requires c κs = search needs
 
-add-place : tie.Need-add-place
-add-place c = search needs
-
-shared-slice-read-result : tie.Need-shared-slice-read-result
-shared-slice-read-result c = search needs
+byte-requires : tie.Need-byte-requires
+byte-requires c κs = search needs
 
 returns : tie.Need-returns
-unfolding headAt
-returns c = refl
+returns c = c .byte .ensures ∙ head-behind _ _ (c .before .behind .ensures)
 
 pub head-code-spec : {M : Type 1} → statement M
-head-code-spec = tie.close (tie.spec mul-place add-place shared-slice-read-result returns)
+head-code-spec = tie.close (tie.spec behind-requires byte-requires returns)

@@ -1,16 +1,16 @@
--- `sheet::readers::number` meets its contract: one byte. Assumes nothing.
+-- `sheet::readers::number` meets its contract.
 use denote.Ref.{now}
-use lib.Seq.{drop-cons}
-use native.Mathlib.Omega.{arith}
+use mathlib.Core.Path.{_∙_}
+use Rattle.sheet.proofs.ReaderLaws.{one-byte}
 use borrow.Author.Needs.{needs}
 use Rattle.sheet.proofs.readers.number.Statement.{statement}
 use Rattle.sheet.proofs.readers.number.Tie as tie
 
-shared-slice-read-result : tie.Need-shared-slice-read-result
-shared-slice-read-result c = search needs
+byte-requires : tie.Need-byte-requires
+byte-requires c κs = search needs
 
 returns : tie.Need-returns
-returns c = let a = c .before .args in rw (drop-cons (now (a .sheet)) (a .start) 0 (search needs)) (omega arith)
+returns c = c .byte .ensures ∙ one-byte (now (c .before .before .args .text)) (c .before .before .args .place)
 
 pub number-spec : {M : Type 1} → statement M
-number-spec = tie.close (tie.spec shared-slice-read-result returns)
+number-spec = tie.close (tie.spec byte-requires returns)

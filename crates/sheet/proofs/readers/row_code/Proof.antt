@@ -1,21 +1,20 @@
--- `sheet::readers::row_code` meets its contract: the row's first byte. Assumes nothing.
-use denote.Ref.{now}
-use mathlib.Core.Path.{sym}
-use Rattle.sheet.specs.Sheets.{form}
-use Rattle.sheet.proofs.FormLaws.{code-place}
-use native.Mathlib.Omega.{arith}
+-- `sheet::readers::row_code` meets its contract.
+use mathlib.Core.Path.{ap, _∙_}
+use mathlib.Core.List.{List}
+use Prim.Native.Nat.{ℕ}
+use Rattle.sheet.specs.Forms.{codeIn}
 use borrow.Author.Needs.{needs}
 use Rattle.sheet.proofs.readers.row_code.Statement.{statement}
 use Rattle.sheet.proofs.readers.row_code.Tie as tie
 
-mul-start : tie.Need-mul-start
-mul-start c = search needs
+row-requires : tie.Need-row-requires
+row-requires c κs = search needs
 
-shared-slice-read-result : tie.Need-shared-slice-read-result
-shared-slice-read-result c = search needs
+byte-requires : tie.Need-byte-requires
+byte-requires c κs = search needs
 
 returns : tie.Need-returns
-returns c = let a = c .before .args in sym (code-place form (now (a .sheet)) (a .i) (omega arith))
+returns c = c .byte .ensures ∙ ap (λ (t : List ℕ). codeIn t) (c .before .row .ensures)
 
 pub row-code-spec : {M : Type 1} → statement M
-row-code-spec = tie.close (tie.spec mul-start shared-slice-read-result returns)
+row-code-spec = tie.close (tie.spec row-requires byte-requires returns)

@@ -5,9 +5,9 @@ use mathlib.Core.Path.{_≡_, _∙_}
 use mathlib.Core.List.{_++_}
 use Prim.Native.Nat.{_+_, _-_, _*_, _≤_}
 use lib.ListN.{length, drop}
-use Rattle.sheet.specs.Counting.{rows, count}
+use Rattle.stations.specs.Counting.{rows, count}
 use Rattle.sheet.specs.Replacing.{touched, mendedRow}
-use Rattle.sheet.proofs.CountLaws.{count-hit, count-miss}
+use Rattle.stations.proofs.CountLaws.{count-hit, count-miss}
 use Rattle.sheet.proofs.RowsMended.{mended-hit, mended-miss}
 use native.Mathlib.Omega.{arith}
 use Rattle.sheet.specs.Sheets.{rowWidth}

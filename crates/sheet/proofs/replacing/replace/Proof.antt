@@ -5,8 +5,10 @@ use mathlib.Core.Bool.{true}
 use Prim.Native.Nat.{ℕ}
 use borrow.Author.Tests.{not-true}
 use Rattle.files.specs.Files.{withRecord, stations}
-use Rattle.files.proofs.LengthLaws.{done, positive, went-on}
+use Rattle.filing.proofs.RefusalLaws.{done, went-on}
+use Rattle.files.proofs.LengthLaws.{positive}
 use Rattle.sheet.specs.Replacing.{mendedSheet, rowsWritten}
+use Rattle.sheet.proofs.RowsMended.{header-none}
 use Rattle.sheet.specs.Calls.{replaceOutcome}
 use Rattle.sheet.proofs.CallLaws.{allowed, sized-at, replace-refused, replace-done}
 use native.Mathlib.Omega.{arith}
@@ -48,7 +50,6 @@ same-length-4 : tie.Need-same-length-4
 same-length-4 c = search needs
 
 returns-2 : tie.Need-returns-2
-unfolding rowsWritten
 returns-2 c =
     let a = c .before .before .before .before .before .before .before .before .before .before .before .before .before .before .before .before .before .before .args in
     let yes : done (replaceOutcome (now (a .file)) (now (a .sheet)) (a .k) (now (a .rec))) ≡ true = went-on (c .before .before .before .before .before .before .before .before .before .before .before .before .replace-outcome .ensures) (c .before .before .before .before .before .before .before .before .before .before .before .is-done .ensures) (c .before .before .before .before .before .before .before .before .before .before .if1 .left) in
@@ -58,7 +59,7 @@ returns-2 c =
     let z : a .k ≡ 0 = c .before .before .before .before .before .before .before .if2 .taken in
     let n = c .before .before .before .before .before .before .before .before .stations-in .ensures in
     let left = c .before .before .before .before .replace-header .ensures in
-    replace-done file sheet (a .k) r yes (rw z)
+    replace-done file sheet (a .k) r yes (sym (ap (λ (k : ℕ). rowsWritten (stations file) file k r) z ∙ header-none (stations file) file r))
     (left .0 ∙ ap (λ (k : ℕ). withRecord file k r) (sym z))
     (left .1 ∙ ap (λ (m : ℕ). mendedSheet m file sheet 0 r) n ∙ ap (λ (k : ℕ). mendedSheet (stations file) file sheet k r) (sym z))
 

@@ -9,8 +9,8 @@ use borrow.Author.Needs.{needs}
 use Rattle.sheet.proofs.replacing.replace_header.Statement.{statement}
 use Rattle.sheet.proofs.replacing.replace_header.Tie as tie
 
-header-code-requires : tie.Need-header-code-requires
-header-code-requires c κs = search needs
+filed-header-code-requires : tie.Need-filed-header-code-requires
+filed-header-code-requires c κs = search needs
 
 put-record-requires : tie.Need-put-record-requires
 put-record-requires c κs = search needs
@@ -28,13 +28,13 @@ returns : tie.Need-returns
 unfolding mendedSheet
 returns c =
     let a = c .before .before .before .before .before .before .before .before .before .before .before .before .args in
-    (c .before .before .before .before .before .before .put-record .ensures, c .before .before .put-trailer .ensures ∙ ap (λ (head : ℕ). withTrailer (a .n) head (take (rowWidth * a .n) (now (a .sheet)))) (c .before .before .before .before .before .before .before .before .header-code .ensures))
+    (c .before .before .before .before .before .before .put-record .ensures, c .before .before .put-trailer .ensures ∙ ap (λ (head : ℕ). withTrailer (a .n) head (take (rowWidth * a .n) (now (a .sheet)))) (c .before .before .before .before .before .before .before .before .filed-header-code .ensures))
 
 pub replace-header-spec : {M : Type 1} → statement M
 replace-header-spec =
     tie.close
     (tie.spec
-    header-code-requires
+    filed-header-code-requires
     put-record-requires
     put-trailer-requires
     same-length

@@ -1,14 +1,18 @@
 -- `sheet::replacing::replace_outcome` meets its contract: what judging asks, then trailer, number and record. Assumes nothing.
 use denote.Ref.{now}
 use mathlib.Core.Path.{_≡_, sym, ap, _∙_}
-use mathlib.Core.Bool.{true, false}
+use mathlib.Core.Bool.{true, false, not}
 use Prim.Native.Nat.{ℕ, _+_, _*_}
-use borrow.Author.Tests.{eq-eqb, ne-eqb, lt-ltb, le-ltb, not-true, not-false}
-use Rattle.files.proofs.LengthLaws.{done, went-on, stopped}
-use Rattle.sheet.specs.Calls.{judgeOutcome, replaceOutcome}
-use Rattle.sheet.proofs.CallLaws.{sheet-refused, judge-sized-up, trailer-refused, trailer-passed}
+use lib.Dec.{ltb}
+use borrow.Author.Tests.{eq-eqb, ne-eqb, lt-ltb, le-ltb}
+use Rattle.filing.specs.Outcomes.{firstRefusal}
+use Rattle.filing.specs.declared.Outcome.the-variants as outcome
+use Rattle.filing.proofs.RefusalLaws.{done, went-on, stopped, passes, stops, none-left, ended-there}
+use Rattle.files.specs.Files.{stations}
+use Rattle.sheet.specs.Calls.{judgeTests, judgeOutcome, replaceOutcome}
+use Rattle.sheet.proofs.CallLaws.{judge-sized-up, further, goes-further}
 use native.Mathlib.Omega.{arith}
-use Rattle.sheet.specs.Sheets.{sheetLength}
+use Rattle.sheet.specs.Sheets.{sheetLength, trailerFits}
 use borrow.Author.Needs.{needs}
 use Rattle.sheet.proofs.replacing.replace_outcome.Statement.{statement}
 use Rattle.sheet.proofs.replacing.replace_outcome.Tie as tie
@@ -20,11 +24,11 @@ is-done-requires : tie.Need-is-done-requires
 is-done-requires c κs = search needs
 
 returns : tie.Need-returns
-unfolding replaceOutcome
+unfolding replaceOutcome judgeOutcome
 returns c =
     let a = c .before .before .before .before .before .before .args in
     let no : done (judgeOutcome (now (a .file)) (now (a .sheet))) ≡ false = stopped (c .before .before .judge-outcome .ensures) (c .before .is-done .ensures) (c .if1 .taken) in
-    c .before .before .judge-outcome .ensures ∙ sheet-refused (now (a .file)) (now (a .sheet)) _ no
+    c .before .before .judge-outcome .ensures ∙ ended-there (judgeTests (now (a .file)) (now (a .sheet))) (further (now (a .file)) (now (a .sheet)) (a .k) (now (a .rec))) no
 
 stations-in-requires : tie.Need-stations-in-requires
 stations-in-requires c κs = search needs
@@ -39,29 +43,41 @@ fits-trailer-requires c κs =
     let n = c .stations-in .ensures in
     (omega (arith, h .most, n), h .sheet-size ∙ ap sheetLength (sym n))
 
+-- what judging asks is passed
+passed : (c : tie.After-stations-in) → let a = c .before .before .before .before .before .before .before .args in
+    replaceOutcome (now (a .file)) (now (a .sheet)) (a .k) (now (a .rec)) ≡ firstRefusal (further (now (a .file)) (now (a .sheet)) (a .k) (now (a .rec)))
+passed c =
+    let a = c .before .before .before .before .before .before .before .args in
+    goes-further (now (a .file)) (now (a .sheet)) (a .k) (now (a .rec)) (went-on (c .before .before .before .judge-outcome .ensures) (c .before .before .is-done .ensures) (c .before .if1 .left))
+
 returns-2 : tie.Need-returns-2
-returns-2 c =
-    let a = c .before .before .before .before .before .before .before .before .before .args in
-    let ends = trailer-refused (now (a .file)) (now (a .sheet)) (a .k) (now (a .rec)) (went-on (c .before .before .before .before .before .judge-outcome .ensures) (c .before .before .before .before .is-done .ensures) (c .before .before .before .if1 .left)) (c .before .before .stations-in .ensures) (c .before .fits-trailer .ensures) (not-true _ (c .if2 .taken)) in
-    ends
+returns-2 c = sym (passed (c .before .before) ∙ stops outcome.SheetTrailer _ (rw (← c .before .before .stations-in .ensures, ← c .before .fits-trailer .ensures) (c .if2 .taken)))
+
+-- the trailer is one of so many rows,
+fits : (c : tie.Else2) → let a = c .before .before .before .before .before .before .before .before .before .args in not (trailerFits (now (a .sheet)) (stations (now (a .file)))) ≡ false
+fits c = rw (← c .before .before .stations-in .ensures, ← c .before .fits-trailer .ensures) (c .if2 .left)
 
 returns-3 : tie.Need-returns-3
-returns-3 c =
-    let a = c .before .before .before .before .before .before .before .before .before .before .args in
-    let ends = trailer-passed (now (a .file)) (now (a .sheet)) (a .k) (now (a .rec)) (went-on (c .before .before .before .before .before .before .judge-outcome .ensures) (c .before .before .before .before .before .is-done .ensures) (c .before .before .before .before .if1 .left)) (c .before .before .before .stations-in .ensures) (c .before .before .fits-trailer .ensures) (not-false _ (c .before .if2 .left)) in
-    sym (rw (lt-ltb _ _ (c .if3 .taken))) ∙ ends
+returns-3 c = sym (passed (c .before .before .before) ∙ passes outcome.SheetTrailer _ (fits (c .before)) ∙ stops outcome.NoSuchRecord _ (rw (← c .before .before .before .stations-in .ensures) (lt-ltb _ _ (c .if3 .taken))))
+
+-- and the number is not above n
+inside : (c : tie.Else3) → let a = c .before .before .before .before .before .before .before .before .before .before .args in ltb (stations (now (a .file))) (a .k) ≡ false
+inside c = rw (← c .before .before .before .stations-in .ensures) (le-ltb _ _ (c .if3 .left))
 
 returns-4 : tie.Need-returns-4
 returns-4 c =
-    let a = c .before .before .before .before .before .before .before .before .before .before .before .args in
-    let ends = trailer-passed (now (a .file)) (now (a .sheet)) (a .k) (now (a .rec)) (went-on (c .before .before .before .before .before .before .before .judge-outcome .ensures) (c .before .before .before .before .before .before .is-done .ensures) (c .before .before .before .before .before .if1 .left)) (c .before .before .before .before .stations-in .ensures) (c .before .before .before .fits-trailer .ensures) (not-false _ (c .before .before .if2 .left)) in
-    sym (rw (le-ltb _ _ (c .before .if3 .left), ne-eqb _ _ (c .if4 .taken))) ∙ ends
+    sym (passed (c .before .before .before .before)
+    ∙ passes outcome.SheetTrailer _ (fits (c .before .before))
+    ∙ passes outcome.NoSuchRecord _ (inside (c .before))
+    ∙ stops outcome.RecordLength _ (rw (ne-eqb _ _ (c .if4 .taken))))
 
 returns-5 : tie.Need-returns-5
 returns-5 c =
-    let a = c .before .before .before .before .before .before .before .before .before .before .before .args in
-    let ends = trailer-passed (now (a .file)) (now (a .sheet)) (a .k) (now (a .rec)) (went-on (c .before .before .before .before .before .before .before .judge-outcome .ensures) (c .before .before .before .before .before .before .is-done .ensures) (c .before .before .before .before .before .if1 .left)) (c .before .before .before .before .stations-in .ensures) (c .before .before .before .fits-trailer .ensures) (not-false _ (c .before .before .if2 .left)) in
-    sym (rw (le-ltb _ _ (c .before .if3 .left), eq-eqb _ _ (c .if4 .left))) ∙ ends
+    sym (passed (c .before .before .before .before)
+    ∙ passes outcome.SheetTrailer _ (fits (c .before .before))
+    ∙ passes outcome.NoSuchRecord _ (inside (c .before))
+    ∙ passes outcome.RecordLength _ (rw (eq-eqb _ _ (c .if4 .left)))
+    ∙ none-left)
 
 pub replace-outcome-spec : {M : Type 1} → statement M
 replace-outcome-spec =

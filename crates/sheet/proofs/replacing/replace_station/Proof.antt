@@ -4,10 +4,9 @@ use mathlib.Core.Path.{_≡_, sym, ap, _∙_}
 use Prim.Native.Nat.{_≤_}
 use native.Mathlib.Nat.{le-of-eq}
 use lib.ListN.{length}
-use Rattle.sheet.specs.Sheets.{referenceAt}
-use Rattle.sheet.specs.Forms.{headAt}
+use Rattle.stations.specs.Stations.{referenceAt}
 use Rattle.sheet.proofs.SheetLaws.{copy-all}
-use Rattle.sheet.proofs.TwinLaws.{reference-wide}
+use Rattle.stations.proofs.StationLaws.{reference-wide}
 use Rattle.sheet.proofs.RowsMended.{station-rows, station-sheet}
 use native.Mathlib.Omega.{arith}
 use borrow.Author.Needs.{needs}
@@ -23,14 +22,8 @@ slice-aggregate-copy c = search needs
 copy-requires : tie.Need-copy-requires
 copy-requires c κs = le-of-eq (ap length (c .before .reference .ensures) ∙ reference-wide _ _ (search needs))
 
-mul-at : tie.Need-mul-at
-mul-at c = search needs
-
-add-at : tie.Need-add-at
-add-at c = search needs
-
-slice-read-head : tie.Need-slice-read-head
-slice-read-head c = search needs
+head-code-requires : tie.Need-head-code-requires
+head-code-requires c κs = search needs
 
 put-record-requires : tie.Need-put-record-requires
 put-record-requires c κs = search needs
@@ -51,21 +44,21 @@ same-length-2 : tie.Need-same-length-2
 same-length-2 c = search needs
 
 returns : tie.Need-returns
-unfolding headAt
 returns c =
-    let start = c .before .before .before .before .before .before .before .before .before .before .before .before .before .before .before .before .before .before .before .before .before .before .before in
+    let start = c .before .before .before .before .before .before .before .before .before .before .before .before .before .before .before .before .before .before .before .before .before .before .before .before in
     let a = start .args in
     let file = now (a .file) in
     let sheet = now (a .sheet) in
     let r = now (a .rec) in
     let positive : 1 ≤ a .k = omega (arith, start) in
-    let found = c .before .before .before .before .before .before .before .before .before .before .before .before .before .before .before .before .before .before .reference in
+    let found = c .before .before .before .before .before .before .before .before .before .before .before .before .before .before .before .before .before .before .before .reference in
     let new = c .before .before .before .before .before .before .before .before .before .before .before .before .put-record .ensures in
     let wide : length (referenceAt file (a .k)) ≡ 15 = reference-wide file (a .k) (omega (arith, start)) in
-    let old = c .before .before .before .before .before .before .before .before .before .before .before .before .before .before .before .before .copy .ensures .1 ∙ copy-all (now (found .result)) _ (sym (ap length (found .ensures) ∙ wide)) ∙ found .ensures in
+    let old = c .before .before .before .before .before .before .before .before .before .before .before .before .before .before .before .before .before .copy .ensures .1 ∙ copy-all (now (found .result)) _ (sym (ap length (found .ensures) ∙ wide)) ∙ found .ensures in
+    let closed = rw (c .before .before .before .before .before .before .before .before .before .before .before .before .before .before .head-code .ensures) at (c .before .before .put-trailer .ensures) in
     let mended = c .before .before .before .before .before .before .mend-rows .ensures in (
       mended .0 ∙ station-rows file sheet (a .k) r (a .n) positive new old,
-      (new, c .before .before .put-trailer .ensures ∙ station-sheet file sheet (a .k) r (a .n) positive new old (omega (arith, start)) (mended .1)),
+      (new, closed ∙ station-sheet file sheet (a .k) r (a .n) positive new old (omega (arith, start)) (mended .1)),
     )
 
 pub replace-station-spec : {M : Type 1} → statement M
@@ -75,9 +68,7 @@ replace-station-spec =
     reference-requires
     slice-aggregate-copy
     copy-requires
-    mul-at
-    add-at
-    slice-read-head
+    head-code-requires
     put-record-requires
     slice-aggregate-mend-rows
     mend-rows-requires

@@ -4,7 +4,7 @@ use mathlib.Core.Bool.{true, false}
 use mathlib.Core.Path.{_≡_}
 use borrow.Author.Tests.{le-leb, lt-leb}
 use Rattle.columns.specs.Texts.{same}
-use Rattle.sheet.specs.Sheets.{referenceAt}
+use Rattle.stations.specs.Stations.{referenceAt}
 use Rattle.sheet.specs.Replacing.{touched}
 use borrow.Author.Needs.{needs}
 use Rattle.sheet.proofs.replacing.touches.Statement.{statement}

@@ -2,9 +2,9 @@
 use denote.Ref.{now}
 use mathlib.Core.Path.{_≡_, sym}
 use Prim.Native.Nat.{_≤_, _-_}
-use Rattle.sheet.specs.Counting.{first}
+use Rattle.stations.specs.Counting.{first}
 use Rattle.sheet.specs.Sheets.{bad}
-use Rattle.sheet.proofs.CountLaws.{first-found, first-missed}
+use Rattle.stations.proofs.CountLaws.{first-found, first-missed}
 use native.Mathlib.Omega.{arith}
 use borrow.Author.Needs.{needs}
 use Rattle.sheet.proofs.trailers.lowest_bad.Statement.{statement}

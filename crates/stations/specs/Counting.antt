@@ -18,7 +18,7 @@ abbrev pub count : (ℕ → Bool) → ℕ → ℕ
 count test zero = 0
 count test (suc n) = count test n + cond (test (suc n)) 1 0
 
--- The rows of 1 to n, one after the other.
+-- What stands for 1 to n, one after the other.
 abbrev pub rows : (ℕ → List ℕ) → ℕ → List ℕ
 rows row zero = []
 rows row (suc n) = rows row n ++ row (suc n)

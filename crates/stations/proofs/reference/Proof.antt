@@ -1,17 +1,16 @@
--- `sheet::twins::reference` meets its contract. Assumes nothing.
+-- `stations::reference` meets its contract.
 use denote.Ref.{now}
 use mathlib.Core.Path.{ap, _∙_}
-use native.Mathlib.Nat.{le-of-eq}
-use Prim.Native.Nat.{ℕ}
 use mathlib.Core.List.{List}
-use mathlib.Core.Path.{sym}
-use lib.ListN.{length, take, drop}
+use Prim.Native.Nat.{ℕ}
+use native.Mathlib.Omega.{arith}
+use lib.ListN.{take, drop}
 use Rattle.station.specs.Places.{fieldsOf}
-use Rattle.files.proofs.FileLaws.{record-wide}
-use Rattle.sheet.specs.Sheets.{referenceAt}
+use Rattle.stations.specs.Stations.{referenceAt}
+use Rattle.stations.proofs.StationLaws.{column-there}
 use borrow.Author.Needs.{needs}
-use Rattle.sheet.proofs.twins.reference.Statement.{statement}
-use Rattle.sheet.proofs.twins.reference.Tie as tie
+use Rattle.stations.proofs.reference.Statement.{statement}
+use Rattle.stations.proofs.reference.Tie as tie
 
 record-in-requires : tie.Need-record-in-requires
 record-in-requires c κs = search needs
@@ -25,7 +24,7 @@ part-result-start c = search needs
 part-result-end : tie.Need-part-result-end
 part-result-end c =
     let a = c .before .before .args in
-    le-of-eq (sym (ap length (c .record-in .ensures .0) ∙ record-wide (now (a .file)) (a .k) (c .before .before .pre)))
+    column-there (now (a .file)) (a .k) (c .before .before .pre) (c .record-in .ensures .0) 219 (omega arith)
 
 returns : tie.Need-returns
 unfolding referenceAt fieldsOf

@@ -1,4 +1,4 @@
--- `sheet::rows::is_zero` meets its contract: the bytes that were passed are 0. Assumes nothing.
+-- `sheet::readers::is_zero` meets its contract: the bytes that were passed are 0. Assumes nothing.
 use Prim.Native.Nat.{_-_}
 use mathlib.Core.Path.{_≡_, refl, sym, _∙_}
 use lib.ListN.{length, drop}
@@ -7,14 +7,14 @@ use borrow.Author.Tests.{eq-eqb, ne-eqb}
 use Rattle.columns.specs.Texts.{every}
 use Rattle.columns.proofs.TextLaws.{every-more, every-not, every-end}
 use borrow.Author.Needs.{needs}
-use Rattle.sheet.proofs.rows.is_zero.Statement.{statement}
-use Rattle.sheet.proofs.rows.is_zero.Tie as tie
+use Rattle.sheet.proofs.readers.is_zero.Statement.{statement}
+use Rattle.sheet.proofs.readers.is_zero.Tie as tie
 
 abbrev Inv-loop : tie.InvT-loop
-Inv-loop row i₀ i = every (λ c. eqb c 0) row ≡ every (λ c. eqb c 0) (drop i row)
+Inv-loop text i₀ i = every (λ c. eqb c 0) text ≡ every (λ c. eqb c 0) (drop i text)
 
 abbrev μ-loop : tie.MeasureT-loop
-μ-loop row i₀ i = length row - i
+μ-loop text i₀ i = length text - i
 
 loop-holds : tie.Need-loop-holds Inv-loop μ-loop
 loop-holds c = refl

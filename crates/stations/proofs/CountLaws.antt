@@ -1,5 +1,4 @@
 -- Going through the numbers 1 to n: the first that passes, and how many do.
--- Assumes nothing.
 use mathlib.Core.Path.{_≡_, refl, sym, _∙_}
 use mathlib.Core.Bool.{Bool, true, false, cond}
 use mathlib.Core.List.{List, [], _∷_, _++_}
@@ -8,7 +7,7 @@ use native.Mathlib.Nat.{le-refl, add-zero, add-suc}
 use native.Mathlib.Numerals.{add-one}
 use native.Mathlib.Omega.{arith}
 use lib.ListN.{length, length-append}
-use Rattle.sheet.specs.Counting.{first, count}
+use Rattle.stations.specs.Counting.{first, count}
 
 -- what was found below stays found
 first-stop : (p : ℕ → Bool) (m d x : ℕ) → first p m ≡ suc x → first p (m + d) ≡ suc x
@@ -45,6 +44,11 @@ module _ (p : ℕ → Bool) (i c : ℕ) (so-far : c ≡ count p i) where
 
   pub count-miss : p (i + 1) ≡ false → c ≡ count p (i + 1)
   count-miss miss = let h : p (suc i) ≡ false = rw add-one at miss in rw (so-far, add-one i, h) (omega arith)
+
+-- Where none passes the count is 0.
+pub count-none : (p : ℕ → Bool) (n : ℕ) → ((i : ℕ) → p i ≡ false) → count p n ≡ 0
+count-none p zero h = refl
+count-none p (suc n) h = rw (count-none p n h, h (suc n))
 
 -- The numbers of 1 to n that pass.
 abbrev pub those : (ℕ → Bool) → ℕ → List ℕ
