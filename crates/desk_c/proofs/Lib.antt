@@ -1,5 +1,3 @@
 pub mod EndingLaws
-pub mod RespellLaws
-pub mod ChangeLaws
 pub mod Unique
 pub mod ShownLaws

@@ -1,8 +1,8 @@
 -- `desk_show`: where a field stands, and that what it locates is the very piece that `show` hands out.
 -- Assumes nothing.
-use mathlib.Core.Path.{_≡_, sym, ap, _∙_}
+use mathlib.Core.Path.{_≡_, refl, sym, ap, _∙_}
 use mathlib.Core.Bool.{true, false}
-use mathlib.Core.List.{List}
+use mathlib.Core.List.{List, [], _∷_, _++_}
 use Prim.Native.Nat.{ℕ, _+_, _-_, _*_, _≤_}
 use native.Mathlib.Omega.{arith}
 use lib.ListN.{length}
@@ -12,9 +12,10 @@ use Rattle.filing.specs.Fields.{placeOf}
 use Rattle.filing.specs.Outcomes.{refusal, ifDone}
 use Rattle.filing.specs.declared.Place.{Place}
 use Rattle.files.specs.Files.{placesOf}
-use Rattle.files.specs.Calls.{showOutcome, shownOffset, shownLength}
+use Rattle.files.specs.Calls.{fileTests, numberTest, fieldTest, showOutcome, shownOffset, shownLength}
 use Rattle.files.specs.Promises.{StandsAt, FieldShown}
-use Rattle.files.proofs.LengthLaws.{done, whole-records}
+use Rattle.filing.proofs.RefusalLaws.{done, none-applies}
+use Rattle.files.proofs.LengthLaws.{whole-records}
 use Rattle.files.proofs.PlaceLaws.{places-tile, place-inside}
 use Rattle.files.proofs.ShowLaws.{shown-there}
 use Rattle.files.proofs.PieceLaws.{shown-length}
@@ -22,8 +23,11 @@ use Rattle.desk_c.specs.Promises.{FieldLocated}
 
 -- a file of which a field can be shown is not too long
 file-length : (file : List ℕ) (k j : ℕ) → done (showOutcome file k j) ≡ true → length file ≤ 54969
-unfolding showOutcome
-file-length file k j t = let w = whole-records file _ t in omega (arith, w .0, w .1)
+unfolding showOutcome refusal
+file-length file k j t =
+    let none = none-applies (fileTests file ++ (numberTest file k ∷ fieldTest k j ∷ [])) refl t in
+    let w = whole-records file (none .0, (none .1 .0, tt)) in
+    omega (arith, w .0, w .1)
 
 module _ (file : List ℕ) (k j : ℕ) where
   -- A place that was found, of a field that can be shown: it lies inside its record, and the record inside the file.

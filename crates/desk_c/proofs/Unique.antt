@@ -9,8 +9,9 @@ use Rattle.station.specs.Calls.{readOutcome}
 use Rattle.station.specs.Setting.{withPower, withAzimuth, withElevation, withHeight, withGround}
 use Rattle.station.specs.declared.Station.{Station}
 use Rattle.header.specs.Calls.{readHeaderOutcome}
-use Rattle.desk_c.specs.Endings.{Answered, Ended}
-use Rattle.desk_c.specs.Records.{respellOutcome, respelledStation, respellHeaderOutcome, respelledHeader, changeOutcome, changedRecord, tenthsStated, heightStated}
+use Rattle.desk_c.specs.Endings.{Answered, AnsweredLeaving}
+use Rattle.rewriting.specs.Records.{respellOutcome, respelledStation, respellHeaderOutcome, respelledHeader, changeOutcome, changedRecord}
+use Rattle.desk_c.specs.Records.{tenthsStated, heightStated}
 use Rattle.desk_c.specs.Promises.{StationCoded, HeaderCoded, StationRespelled, HeaderRespelled, RecordChanged, PowerChanged, AzimuthChanged, ElevationChanged, HeightChanged, GroundChanged, FilingJudged, FilingReplaced, FieldLocated, RecordLineOut, LineRecordIn}
 
 -- One outcome has one number and one code,
@@ -26,7 +27,7 @@ pub one-header-code : (r : List ℕ) (a b c d : ℕ) → HeaderCoded r a c → H
 one-header-code r = one-answer (readHeaderOutcome r)
 
 -- One outcome and one content that is to be left: so are the answers, the codes and the bytes,
-pub one-ending : (o : Outcome) (left : List ℕ) (a b c d : ℕ) (x y : List ℕ) → Ended o left a x c → Ended o left b y d → (a ≡ b) × (c ≡ d) × (x ≡ y)
+pub one-ending : (o : Outcome) (left : List ℕ) (a b c d : ℕ) (x y : List ℕ) → AnsweredLeaving o left a x c → AnsweredLeaving o left b y d → (a ≡ b) × (c ≡ d) × (x ≡ y)
 one-ending o left a b c d x y p q =
     let e = one-answer o a b c d (p .0) (q .0) in
     (e .0, e .1, p .1 ∙ sym (q .1))

@@ -4,18 +4,17 @@ use Prim.Native.Nat.{ℕ}
 use mathlib.Core.Path.{_≡_}
 use mathlib.Core.List.{List}
 use lib.IntN.{ℤ}
-use Rattle.filing.specs.Outcomes.{refusal, ifDone}
-use Rattle.station.specs.Calls.{readOutcome, writeOutcome, writtenStation}
+use Rattle.filing.specs.Outcomes.{refusal}
+use Rattle.station.specs.Calls.{readOutcome}
 use Rattle.station.specs.Setting.{withPower, withAzimuth, withElevation, withHeight, withGround}
 use Rattle.station.specs.declared.Station.{Station}
-use Rattle.station.specs.declared.setting.Settled.{Settled}
-use Rattle.reading.specs.declared.typed.ReadStation.{ReadStation}
 use Rattle.lists.specs.Calls.{recordListing, listedLength, listedRecord, lineFiling, filedLine}
 use Rattle.header.specs.Calls.{readHeaderOutcome}
 use Rattle.files.specs.Calls.{showOutcome, shownOffset, shownLength}
 use Rattle.sheet.specs.Calls.{judgeOutcome, judgedInto, replaceOutcome, replacedFile, replacedSheet, replacedRows}
-use Rattle.desk_c.specs.Endings.{firstRefusal, Answered, AnsweredOnLine, Ended}
-use Rattle.desk_c.specs.Records.{respellOutcome, respelledStation, respellHeaderOutcome, respelledHeader, changeOutcome, changedRecord, tenthsStated, heightStated}
+use Rattle.desk_c.specs.Endings.{Answered, AnsweredLeaving}
+use Rattle.rewriting.specs.Records.{respellOutcome, respelledStation, respellHeaderOutcome, respelledHeader, changeOutcome, changedRecord}
+use Rattle.desk_c.specs.Records.{tenthsStated, heightStated}
 
 -- `desk_station_code` on a record.
 abbrev pub StationCoded : List ℕ → ℕ → ℕ → Type 0
@@ -27,21 +26,15 @@ HeaderCoded r answer code = Answered (readHeaderOutcome r) answer code
 
 -- `desk_respell_station` of a record into a buffer.
 abbrev pub StationRespelled : List ℕ → List ℕ → ℕ → List ℕ → ℕ → Type 0
-StationRespelled r before answer after code = Ended (respellOutcome r before) (respelledStation r before) answer after code
+StationRespelled r before answer after code = AnsweredLeaving (respellOutcome r before) (respelledStation r before) answer after code
 
 -- `desk_respell_header` of a record into a buffer.
 abbrev pub HeaderRespelled : List ℕ → List ℕ → ℕ → List ℕ → ℕ → Type 0
-HeaderRespelled r before answer after code = Ended (respellHeaderOutcome r before) (respelledHeader r before) answer after code
-
--- A station read from a record, then set, then written back: each only where nothing was refused before.
-abbrev pub RecordSettled : ReadStation → Settled → List ℕ → ℕ → List ℕ → ℕ → Type 0
-RecordSettled read settled before answer after code =
-    let refused = firstRefusal (read .outcome) (settled .outcome) in
-    Ended (firstRefusal refused (writeOutcome (settled .station) before)) (ifDone refused (writtenStation (settled .station) before) before) answer after code
+HeaderRespelled r before answer after code = AnsweredLeaving (respellHeaderOutcome r before) (respelledHeader r before) answer after code
 
 -- A change to the station that a record says.
 abbrev pub RecordChanged : (Station → Station) → List ℕ → ℕ → List ℕ → ℕ → Type 0
-RecordChanged change before answer after code = Ended (changeOutcome change before) (changedRecord change before) answer after code
+RecordChanged change before answer after code = AnsweredLeaving (changeOutcome change before) (changedRecord change before) answer after code
 
 -- `desk_set_power`, 8B1
 abbrev pub PowerChanged : ℕ → ℤ → List ℕ → ℕ → List ℕ → ℕ → Type 0
@@ -83,8 +76,8 @@ FieldLocated file k j answer offset length =
 -- `desk_list_out` of a record into a buffer.
 abbrev pub RecordLineOut : List ℕ → List ℕ → ℕ → List ℕ → ℕ → ℕ → Type 0
 RecordLineOut r before answer after length code =
-    AnsweredOnLine (recordListing r before) answer code × (after ≡ listedRecord r before) × (length ≡ listedLength r before)
+    Answered (recordListing r before) answer code × (after ≡ listedRecord r before) × (length ≡ listedLength r before)
 
 -- `desk_list_in` of a line into a record.
 abbrev pub LineRecordIn : List ℕ → List ℕ → ℕ → List ℕ → ℕ → Type 0
-LineRecordIn t before answer after code = AnsweredOnLine (lineFiling t before) answer code × (after ≡ filedLine t before)
+LineRecordIn t before answer after code = Answered (lineFiling t before) answer code × (after ≡ filedLine t before)

@@ -1,5 +1,5 @@
 // The calls on lines of a semicolon list: a record as a line, and a line as a record.
-use crate::endings::answer_on_line;
+use crate::endings::answer;
 use lists::records::line_to_record;
 use lists::records::record_to_line;
 ghost use Rattle.desk_c.specs.Promises.{RecordLineOut, LineRecordIn};
@@ -17,7 +17,7 @@ pub extern "C" fn desk_list_out(
     let written = record_to_line(rec, line);
     let outcome = written.outcome;
     *length = written.length;
-    answer_on_line(outcome, code)
+    answer(outcome, code)
 }
 
 // Writes the station of a line as a record into the lent bytes: 7, 10, 11, 9 with its code, or 0.
@@ -25,5 +25,5 @@ pub extern "C" fn desk_list_out(
 pub extern "C" fn desk_list_in(line: &[u8], rec: &mut [u8], code: &mut u8) -> u8
     ensures { λ r. ⌜ LineRecordIn (now (line .entry)) (now (rec .entry)) r (now (rec .exit)) (now (code .exit)) ⌝ }
 {
-    answer_on_line(line_to_record(line, rec), code)
+    answer(line_to_record(line, rec), code)
 }

@@ -3,7 +3,7 @@ use denote.Ref.{now}
 use mathlib.Core.Path.{ap, _∙_}
 use Rattle.filing.specs.Outcomes.{refusal}
 use Rattle.filing.specs.declared.Outcome.{Outcome}
-use Rattle.files.proofs.LengthLaws.{went-on, stopped}
+use Rattle.filing.proofs.RefusalLaws.{went-on, stopped}
 use Rattle.desk_c.proofs.ShownLaws.{placed, located-not, located-there}
 use native.Mathlib.Omega.{arith}
 use borrow.Author.Needs.{needs}

@@ -1,40 +1,31 @@
--- `desk_c::records::desk_set_azimuth` meets its contract. Assumes nothing.
+-- `desk_c::records::desk_set_azimuth` meets its contract.
 use mir.Facts.{toZ-ofZ}
+use denote.Ref.{now}
 use Rattle.station.specs.Setting.{withAzimuth}
-use Rattle.desk_c.proofs.ChangeLaws.{value-put}
+use Rattle.desk_c.proofs.EndingLaws.{answered-leaving, value-stated}
 use borrow.Author.Needs.{needs}
 use Rattle.desk_c.proofs.records.desk_set_azimuth.Statement.{statement}
 use Rattle.desk_c.proofs.records.desk_set_azimuth.Tie as tie
 
-read-station-requires : tie.Need-read-station-requires
-read-station-requires c κs = search needs
-
 tenths-stated-requires : tie.Need-tenths-stated-requires
 tenths-stated-requires c κs = search needs
 
-set-azimuth-requires : tie.Need-set-azimuth-requires
-set-azimuth-requires c κs = search needs
+change-azimuth-requires : tie.Need-change-azimuth-requires
+change-azimuth-requires c κs = search needs
 
-settle-record-requires : tie.Need-settle-record-requires
-settle-record-requires c κs = search needs
+answer-requires : tie.Need-answer-requires
+answer-requires c κs = search needs
 
 same-length : tie.Need-same-length
 same-length c = search needs
 
 returns : tie.Need-returns
 returns c =
-    let start = c .before .before .before .before .before .before .before .before .before .before .before in
-    let read = c .before .before .before .before .before .before .before .before .read-station in
-    let settled = c .before .before .before .before .before .set-azimuth in
-    value-put withAzimuth (rw (toZ-ofZ (start .fits .tenths)) at (c .before .before .before .before .before .before .tenths-stated .ensures)) (start .args .rec .now) (read .result) (settled .result) (read .ensures) (settled .ensures) (c .before .before .settle-record .ensures)
+    let start = c .before .before .before .before .before .before .before .before in
+    let stated = rw (toZ-ofZ (start .fits .tenths)) at (c .before .before .before .before .before .tenths-stated .ensures) in
+    answered-leaving (c .answer .ensures) (value-stated withAzimuth stated (now (start .args .rec)) (c .before .before .before .before .change-azimuth .ensures))
 
 pub desk-set-azimuth-spec : {M : Type 1} → statement M
 desk-set-azimuth-spec =
     tie.close
-    (tie.spec
-    read-station-requires
-    tenths-stated-requires
-    set-azimuth-requires
-    settle-record-requires
-    same-length
-    returns)
+    (tie.spec tenths-stated-requires change-azimuth-requires answer-requires same-length returns)

@@ -1,0 +1,3 @@
+pub mod RespellLaws
+pub mod ChangeLaws
+pub mod Unique
