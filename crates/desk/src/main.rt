@@ -1,13 +1,21 @@
 // The desk: reads a filing file from standard input and prints its report.
+use files::lengths::MOST_BYTES;
+use intake::read_input;
 use report::reports::write_report;
 ghost use mathlib.Core.Path.{_≡_};
+ghost use Prim.Native.Nat.{_+_, _*_};
 ghost use lib.ListN.{length};
+ghost use Rattle.filing.specs.Fields.{recordLength};
+ghost use Rattle.files.specs.Files.{mostStations};
 
-// Room for the longest file and one byte more, so that a longer one is told from it.
-fn file_space() -> [u8; 54970]
-    ensures { λ r. ⌜ 54970 ≡ length r ⌝ }
+// The bytes of the longest file and one more, so that a longer one is told from it.
+const ROOM: usize = MOST_BYTES + 1;
+
+// Room for them.
+fn file_space() -> [u8; ROOM]
+    ensures { λ r. ⌜ recordLength * (mostStations + 1) + 1 ≡ length r ⌝ }
 {
-    [0; 54970]
+    [0; ROOM]
 }
 
 // Room for the longest report.
@@ -17,10 +25,15 @@ fn report_space() -> [u8; 8192]
     [0; 8192]
 }
 
-// Reads at most 54,970 bytes of the file, and writes all of its report, or says that it could not.
+// Reads at most that much of the file, and writes all of its report, or says what it could not do.
 fn main() {
     let mut file = file_space();
-    let n = io::read_full(0, &mut file);
+    let taken = read_input(&mut file);
+    if !taken.whole {
+        io::write_all(2, b"not read\n");
+        return;
+    }
+    let n = taken.bytes;
     let mut lines = report_space();
     let end = write_report(&file[..n], &mut lines);
     if !io::write_all(1, &lines[..end]) {

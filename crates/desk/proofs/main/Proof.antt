@@ -1,4 +1,4 @@
--- `desk::main` is safe and ends: what it writes is within what the report was written into. Assumes nothing.
+-- `desk::main` is safe and ends: what it writes is within what the report was written into.
 use mathlib.Core.Path.{sym}
 use lib.Seq.{length-take-le}
 use Rattle.report.proofs.ReportLaws.{within}
@@ -9,11 +9,20 @@ use Rattle.desk.proofs.main.Tie as tie
 file-space-requires : tie.Need-file-space-requires
 file-space-requires c κs = search needs
 
-slice-aggregate-read-full : tie.Need-slice-aggregate-read-full
-slice-aggregate-read-full c = search needs
+slice-aggregate-read-input : tie.Need-slice-aggregate-read-input
+slice-aggregate-read-input c = search needs
 
-read-full-requires : tie.Need-read-full-requires
-read-full-requires c κs = search needs
+read-input-requires : tie.Need-read-input-requires
+read-input-requires c κs = search needs
+
+slice-aggregate-write-all : tie.Need-slice-aggregate-write-all
+slice-aggregate-write-all c = search needs
+
+write-all-requires : tie.Need-write-all-requires
+write-all-requires c κs = search needs
+
+returns : tie.Need-returns
+returns c = search needs
 
 report-space-requires : tie.Need-report-space-requires
 report-space-requires c κs = search needs
@@ -22,7 +31,7 @@ array-share-prefix-file : tie.Need-array-share-prefix-file
 array-share-prefix-file c = search needs
 
 slice-aggregate-write-report : tie.Need-slice-aggregate-write-report
-slice-aggregate-write-report c = search needs
+slice-aggregate-write-report c = sym (length-take-le (c .before .before .before .before .before .read-input .result .bytes) (c .before .before .before .before .before .read-input .last .0) (search needs))
 
 write-report-requires : tie.Need-write-report-requires
 write-report-requires c κs = search needs
@@ -30,39 +39,42 @@ write-report-requires c κs = search needs
 array-share-prefix-lines : tie.Need-array-share-prefix-lines
 array-share-prefix-lines c = within _ _ (c .write-report .ensures)
 
-slice-aggregate-write-all : tie.Need-slice-aggregate-write-all
-slice-aggregate-write-all c = sym (length-take-le (c .before .write-report .result) (c .before .write-report .last .1 .0) (within _ _ (c .before .write-report .ensures)))
-
-write-all-requires : tie.Need-write-all-requires
-write-all-requires c κs = search needs
-
 slice-aggregate-write-all-2 : tie.Need-slice-aggregate-write-all-2
-slice-aggregate-write-all-2 c = search needs
+slice-aggregate-write-all-2 c = sym (length-take-le (c .before .write-report .result) (c .before .write-report .last .1 .0) (within _ _ (c .before .write-report .ensures)))
 
 write-all-requires-2 : tie.Need-write-all-requires-2
 write-all-requires-2 c κs = search needs
 
-returns : tie.Need-returns
-returns c = search needs
+slice-aggregate-write-all-3 : tie.Need-slice-aggregate-write-all-3
+slice-aggregate-write-all-3 c = search needs
+
+write-all-requires-3 : tie.Need-write-all-requires-3
+write-all-requires-3 c κs = search needs
 
 returns-2 : tie.Need-returns-2
 returns-2 c = search needs
+
+returns-3 : tie.Need-returns-3
+returns-3 c = search needs
 
 pub main-spec : {M : Type 1} → statement M
 main-spec =
     tie.close
     (tie.spec
     file-space-requires
-    slice-aggregate-read-full
-    read-full-requires
+    slice-aggregate-read-input
+    read-input-requires
+    slice-aggregate-write-all
+    write-all-requires
+    returns
     report-space-requires
     array-share-prefix-file
     slice-aggregate-write-report
     write-report-requires
     array-share-prefix-lines
-    slice-aggregate-write-all
-    write-all-requires
     slice-aggregate-write-all-2
     write-all-requires-2
-    returns
-    returns-2)
+    slice-aggregate-write-all-3
+    write-all-requires-3
+    returns-2
+    returns-3)
