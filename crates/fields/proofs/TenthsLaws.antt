@@ -8,7 +8,8 @@ use Rattle.columns.specs.declared.decimals.Format.{Format}
 use Rattle.columns.proofs.TextLaws.{and-split}
 use Rattle.fields.specs.declared.tenths.Tenths.{Tenths}
 use Rattle.fields.specs.declared.tenths.Tenths.the-variants as tenths
-use Rattle.fields.specs.Tenths.{rangeOf, tenthsFit}
+use Rattle.fields.specs.Tenths.{tenthsFit}
+use Rattle.fields.specs.Table.{rangeOf}
 
 -- a filled value does not fit where its digits lack their places,
 pub fit-not : (f : Format) (z : ℤ) {v : Tenths} → v ≡ tenths.Filled z → formatFits f z ≡ false → false ≡ tenthsFit (digitsBefore f) (digitsAfter f) (maySign f) (rangeOf f) v

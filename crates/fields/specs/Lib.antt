@@ -4,4 +4,6 @@ pub mod Distances
 pub mod Positions
 pub mod Emission
 pub mod Remarks
-pub mod Codes
+pub mod Kinds
+pub mod Rows
+pub mod Table

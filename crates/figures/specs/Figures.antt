@@ -23,11 +23,10 @@ use Rattle.fields.specs.Distances.{radiusOf, groundOf, heightGood, heightOf}
 use Rattle.fields.specs.Positions.{arcSeconds, arcGood, arcOf, positionGood, positionOf}
 use Rattle.fields.specs.Emission.{bandwidthGood, detailGood, emissionGood}
 use Rattle.fields.specs.Remarks.{cellGood, installationGood, remarksGood}
-use Rattle.fields.specs.Codes.{isCategory, classGood, serviceGood, usersGood, isCarrier, nameGood, countryGood, isBasis, polarisationGood, antennaGood, isStatus, referenceGood}
 use Rattle.filing.specs.Rules.{firstBroken}
 use Rattle.station.specs.Places.{fieldsOf}
-use Rattle.station.specs.Rules.{fieldRules, channelFields, siteFields, emissionFields, antennaFields, filingFields}
-use Rattle.station.specs.Between.{mobile, roundAntenna, firstBetween, lastBetween, betweenRules}
+use Rattle.station.specs.Rules.{fieldRules}
+use Rattle.station.specs.Between.{roundAntenna, betweenRules}
 use Rattle.station.specs.Values.{stationOf}
 use Rattle.station.specs.Codes.{stationCode, valueOf}
 use Rattle.station.specs.declared.Station.{Station}
@@ -97,7 +96,7 @@ table =
 
 -- They hold of the rules.
 pub figures-hold : AllHold table
-unfolding Holds among isHex isNarrow isText isName skip trimmed every howMany each byteGood same oneOf leading numberFrom wholeDigits wholeOf unsigned signedOf fractionOf magnitudeOf decimalOf dateRule dateIn dateOf dayGood dayOf tenthsGood tenthsOf amountGood unitGood unitOf frequencyOf radiusOf groundOf heightGood heightOf arcSeconds arcGood arcOf positionGood positionOf bandwidthGood detailGood emissionGood cellGood installationGood remarksGood isCategory classGood serviceGood usersGood isCarrier nameGood countryGood isBasis polarisationGood antennaGood isStatus referenceGood firstBroken fieldsOf fieldRules channelFields siteFields emissionFields antennaFields filingFields mobile roundAntenna firstBetween lastBetween betweenRules stationOf valueOf stationCode
+unfolding Holds among isHex isNarrow isText isName skip trimmed every howMany each byteGood same oneOf leading numberFrom wholeDigits wholeOf unsigned signedOf fractionOf magnitudeOf decimalOf dateRule dateIn dateOf dayGood dayOf tenthsGood tenthsOf amountGood unitGood unitOf frequencyOf radiusOf groundOf heightGood heightOf arcSeconds arcGood arcOf positionGood positionOf bandwidthGood detailGood emissionGood cellGood installationGood remarksGood firstBroken fieldsOf fieldRules roundAntenna betweenRules stationOf valueOf stationCode
 figures-hold = (
   (refl, refl),
   (

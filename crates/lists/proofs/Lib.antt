@@ -1,3 +1,4 @@
+pub mod Before
 pub mod PadLaws
 pub mod LineLaws
 pub mod PieceLaws
@@ -9,6 +10,7 @@ pub mod SizeLaws
 pub mod CountLaws
 pub mod MarkLaws
 pub mod FillLaws
+pub mod KindPieces
 pub mod OutLaws
 pub mod CallLaws
 pub mod RecordLaws

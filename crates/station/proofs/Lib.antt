@@ -1,3 +1,4 @@
+pub mod Before
 pub mod EndLaws
 pub mod RoundTrip
 pub mod Unique

@@ -20,7 +20,8 @@ ghost use Rattle.columns.specs.Decimals.{digitsBefore, digitsAfter, maySign, fo
 ghost use Rattle.fields.specs.Distances.{radiusFits, spellRadius, groundFits, spellGround, heightFits, spellHeight};
 ghost use Rattle.fields.specs.Frequencies.{frequencyFits, spellAmount, spellUnit};
 ghost use Rattle.fields.specs.Positions.{positionFits, spellPosition};
-ghost use Rattle.fields.specs.Tenths.{tenthsFit, rangeOf, spellTenths};
+ghost use Rattle.fields.specs.Tenths.{tenthsFit, spellTenths};
+ghost use Rattle.fields.specs.Table.{rangeOf};
 
 // A frequency without its unit, or blank: 1A or 1Y.
 pub(crate) fn put_amount(s: &mut [u8], v: Frequency)
