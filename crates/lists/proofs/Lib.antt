@@ -1,4 +1,3 @@
-pub mod Before
 pub mod PadLaws
 pub mod LineLaws
 pub mod PieceLaws

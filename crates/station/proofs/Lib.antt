@@ -1,4 +1,3 @@
-pub mod Before
 pub mod EndLaws
 pub mod RoundTrip
 pub mod Unique
