@@ -6,22 +6,23 @@ use mathlib.Core.List.{List, [], _∷_}
 use Prim.Native.Nat.{ℕ, suc, _-_}
 use Prim.Native.String.{String}
 use native.Mathlib.Omega.{arith}
-use lib.Dec.{eqb}
+use lib.Dec.{eqb, leb}
 use lib.ListN.{length}
 use lib.IntN.{ℤ}
-use borrow.Author.Tests.{eqb-true}
+use borrow.Author.Tests.{eqb-true, leb-true}
 use Rattle.columns.specs.Texts.{bytes, blank, trimmed, every, oneOf, sized}
 use Rattle.columns.specs.Decimals.{decimalWidth}
 use Rattle.columns.proofs.TextLaws.{and-split}
-use Rattle.columns.proofs.ColumnLaws.{Column, text-column, byte-column, day-column, each-sized, one-sized, AllSized}
+use Rattle.columns.proofs.ColumnLaws.{Column, text-column, byte-column, whole-column, day-column, date-column, each-sized, same-sized, one-sized, text-sized, AllSized}
 use Rattle.filing.specs.Fields.{at}
 use Rattle.fields.specs.Frequencies.{spellAmount, spellUnit, unitGood, frequencyOf, frequencyFits}
 use Rattle.fields.specs.Emission.{emissionGood}
 use Rattle.fields.specs.Remarks.{remarksGood}
-use Rattle.fields.specs.Kinds.{TextRule, places, word, emission, Kind, amount, unit, byte, choice, text, remarks, dateOrBlank, tenths, kilometres, metres, metresOrBlank, position, Meaning, textKeeps, meaning}
+use Rattle.fields.specs.Kinds.{TextRule, places, word, leftText, literal, emission, Kind, amount, unit, byte, choice, text, remarks, date, dateOrBlank, tenths, kilometres, metres, metresOrBlank, position, whole, wholeOrBlank, Meaning, textKeeps, meaning}
 use Rattle.fields.specs.declared.frequencies.Frequency.{Frequency}
 use Rattle.fields.proofs.FieldColumns.{frequency-pair, tenths-column, radius-column, ground-column, height-column}
 use Rattle.fields.proofs.PositionColumn.{position-column}
+use Rattle.fields.proofs.SerialColumn.{serial-column}
 
 -- What holds of a kind in w columns. A value that fits is spelt in w columns, and a field k of that spelling keeps the rule and says the value;
 -- a field of w columns that keeps the rule says a value that fits. An amount and its unit stand beside one another: `Beside` is what one asks of the
@@ -84,6 +85,8 @@ all-sized w (x ∷ xs) e =
 abbrev textWide : TextRule → ℕ → Bool
 textWide (places tests) w = eqb (length tests) w
 textWide (word set) w = true
+textWide (leftText set) w = true
+textWide (literal x) w = eqb (length (bytes x)) w
 textWide emission w = eqb 9 w
 
 abbrev pub asWide : Kind → ℕ → Bool
@@ -93,12 +96,15 @@ asWide (byte first set) w = eqb 1 w
 asWide (choice xs) w = allSized w xs
 asWide (text rule) w = textWide rule w
 asWide remarks w = eqb 50 w
+asWide date w = eqb 8 w
 asWide dateOrBlank w = eqb 8 w
 asWide (tenths a sign range) w = eqb (decimalWidth a 1 sign) w
 asWide kilometres w = eqb 5 w
 asWide metres w = eqb 4 w
 asWide metresOrBlank w = eqb 4 w
 asWide position w = eqb 15 w
+asWide whole w = leb 1 w && leb w 18
+asWide wholeOrBlank w = eqb 6 w
 
 -- a width that is asked for first
 width-first : (w : ℕ) (p : List ℕ) (rest : Bool) → (sized w p && rest) ≡ true → length p ≡ w
@@ -109,6 +115,8 @@ pub text-wide : (rule : TextRule) (w : ℕ) → textWide rule w ≡ true → (p 
 unfolding emissionGood
 text-wide (places tests) w s p e = each-sized tests p e ∙ eqb-true (length tests) w s
 text-wide (word set) w s p e = width-first w p (not (blank p) && every set (trimmed p)) e
+text-wide (leftText set) w s p e = text-sized w set p e
+text-wide (literal x) w s p e = same-sized (bytes x) p e ∙ eqb-true (length (bytes x)) w s
 text-wide emission w s p e = width-first 9 p _ e ∙ eqb-true 9 w s
 
 pub remarks-wide : (p : List ℕ) → remarksGood p ≡ true → length p ≡ 50
@@ -123,9 +131,12 @@ lawful (byte first set) w s = stands-alone (byte-column set) (eqb-true 1 w s)
 lawful (choice xs) w s = stands-alone (text-column w (oneOf xs) (λ p e. one-sized w xs p (all-sized w xs s) e)) refl
 lawful (text rule) w s = stands-alone (text-column w (textKeeps rule w) (text-wide rule w s)) refl
 lawful remarks w s = stands-alone (text-column 50 remarksGood remarks-wide) (eqb-true 50 w s)
+lawful date w s = stands-alone date-column (eqb-true 8 w s)
 lawful dateOrBlank w s = stands-alone day-column (eqb-true 8 w s)
 lawful (tenths a sign range) w s = stands-alone (tenths-column a 1 sign range (omega arith)) (eqb-true (decimalWidth a 1 sign) w s)
 lawful kilometres w s = stands-alone radius-column (eqb-true 5 w s)
 lawful metres w s = stands-alone ground-column (eqb-true 4 w s)
 lawful metresOrBlank w s = stands-alone height-column (eqb-true 4 w s)
 lawful position w s = stands-alone position-column (eqb-true 15 w s)
+lawful whole w s = let h = and-split (leb 1 w) (leb w 18) s in stands-alone (whole-column w (leb-true 1 w (h .0)) (leb-true w 18 (h .1))) refl
+lawful wholeOrBlank w s = stands-alone serial-column (eqb-true 6 w s)

@@ -10,6 +10,7 @@ pub mod LetterLaws
 pub mod PlaceLaws
 pub mod PositionColumn
 pub mod RowLaws
+pub mod SerialColumn
 pub mod SignedLaws
 pub mod TenthsLaws
 pub mod TrimLaws

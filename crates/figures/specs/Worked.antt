@@ -27,7 +27,8 @@ use Rattle.lists.specs.Lines as lines
 use Rattle.lists.specs.Outcomes.{listedRefusal, listedCode, ifListed, unbroken}
 use Rattle.lists.specs.Calls.{lineOutcome, stationInLine}
 use Rattle.header.specs.Places.{headerFields}
-use Rattle.header.specs.Values.{serialGood, serialOf, headerOf}
+use Rattle.fields.specs.Serials.{serialGood, serialOf}
+use Rattle.header.specs.Values.{headerOf}
 use Rattle.header.specs.Rules.{headerRules}
 use Rattle.header.specs.Codes.{headerValue, headerCode, filedHeaderCode}
 use Rattle.files.specs.Files.{stations, recordAt, withRecord, tooLong, notRecords, placesOf, fieldAt, fieldCount}

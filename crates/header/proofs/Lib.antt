@@ -1,3 +1,3 @@
-pub mod SerialColumn
+pub mod Before
 pub mod RoundTrip
 pub mod Unique

@@ -5,7 +5,7 @@ use mathlib.Core.List.{List, [], _∷_, _++_}
 use lib.ListN.{length, replicate}
 use lib.Dec.{leb}
 use Rattle.columns.specs.Texts.{skip, trimmed}
-use Rattle.fields.specs.Kinds.{Kind, amount, unit, byte, choice, text, remarks, dateOrBlank, tenths, kilometres, metres, metresOrBlank, position}
+use Rattle.fields.specs.Kinds.{Kind, amount, unit, byte, choice, text, remarks, date, dateOrBlank, tenths, kilometres, metres, metresOrBlank, position, whole, wholeOrBlank}
 use Rattle.fields.specs.Rows.{Row}
 use Rattle.fields.specs.Table.{stationTable}
 use Rattle.lists.specs.declared.Side.{Side}
@@ -19,12 +19,15 @@ sideOf (byte first set) = side.Right
 sideOf (choice xs) = side.Right
 sideOf (text rule) = side.Right
 sideOf remarks = side.Kept
+sideOf date = side.Right
 sideOf dateOrBlank = side.Right
 sideOf (tenths a sign range) = side.Left
 sideOf kilometres = side.Left
 sideOf metres = side.Left
 sideOf metresOrBlank = side.Left
 sideOf position = side.Right
+sideOf whole = side.Left
+sideOf wholeOrBlank = side.Left
 
 -- The sides of a table's fields,
 abbrev pub sidesOf : List Row → List Side
