@@ -3,7 +3,7 @@
 use mathlib.Core.Path.{_≡_}
 use mathlib.Core.Bool.{Bool, true, false}
 use lib.IntN.{ℤ}
-use Rattle.columns.specs.Decimals.{digitsBefore, digitsAfter, maySign, formatFits}
+use Rattle.columns.specs.Formats.{digitsBefore, digitsAfter, maySign, formatFits}
 use Rattle.columns.specs.declared.decimals.Format.{Format}
 use Rattle.columns.proofs.TextLaws.{and-split}
 use Rattle.fields.specs.declared.tenths.Tenths.{Tenths}

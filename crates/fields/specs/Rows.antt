@@ -60,15 +60,18 @@ abbrev pub speltOf : (t : List Row) → Values t → List (List ℕ)
 speltOf [] v = []
 speltOf (r ∷ rs) v = (meant r) .spelt (v .0) ∷ speltOf rs (v .1)
 
--- Row number k, and what it means.
-abbrev pub rowAt : List Row → ℕ → Row
-rowAt t k = getD t (k - 1) (field "" 0 0 remarks)
+-- Row number i + 1; where there is none, one that holds nothing.
+abbrev pub rowBehind : List Row → ℕ → Row
+rowBehind t i = getD t i (field "" 0 0 remarks)
 
--- The value of field number i + 1, and of field number k.
-abbrev pub valueBehind : (t : List Row) → Values t → (i : ℕ) → (meant (getD t i (field "" 0 0 remarks))) .Value
+-- The value in that row,
+abbrev pub valueBehind : (t : List Row) → Values t → (i : ℕ) → (meant (rowBehind t i)) .Value
 valueBehind [] v i = []
 valueBehind (r ∷ rs) v zero = v .0
 valueBehind (r ∷ rs) v (suc i) = valueBehind rs (v .1) i
 
-abbrev pub valueAt : (t : List Row) → Values t → (k : ℕ) → (meant (rowAt t k)) .Value
-valueAt t v k = valueBehind t v (k - 1)
+-- and the values with another one there.
+abbrev pub putBehind : (t : List Row) → Values t → (i : ℕ) → (meant (rowBehind t i)) .Value → Values t
+putBehind [] v i x = v
+putBehind (r ∷ rs) v zero x = x & v .1
+putBehind (r ∷ rs) v (suc i) x = v .0 & putBehind rs (v .1) i x

@@ -1,5 +1,5 @@
 -- Document 01, "Station rules, by code": the thirty fields of a station, a line for each row of the paper's table. A field's number is its code.
-use Prim.Native.Nat.{ℕ}
+use Prim.Native.Nat.{ℕ, _-_}
 use mathlib.Core.Path.{_≡_, refl}
 use mathlib.Core.Bool.{Bool, true, not, _&&_, _||_}
 use mathlib.Core.List.{List, [], _∷_, _++_}
@@ -12,7 +12,7 @@ use Rattle.columns.specs.declared.decimals.Format.the-variants as format
 use Rattle.filing.specs.Fields.{tilesFrom}
 use Rattle.fields.specs.Tenths.{anyNumber, upTo}
 use Rattle.fields.specs.Kinds.{signed, unsigned, amount, unit, byte, choice, text, places, word, emission, remarks, dateOrBlank, tenths, kilometres, metres, metresOrBlank, position, Meaning}
-use Rattle.fields.specs.Rows.{Row, field, meant, rowAt, placesOf}
+use Rattle.fields.specs.Rows.{Row, field, meant, rowBehind, placesOf}
 
 -- A letter of 6Z: A-Z, J never.
 abbrev pub isUser : ℕ → Bool
@@ -58,7 +58,7 @@ table-tiles = refl
 
 -- What the row of code k means,
 abbrev pub meantAt : ℕ → Meaning
-meantAt k = meant (rowAt stationTable k)
+meantAt k = meant (rowBehind stationTable (k - 1))
 
 -- and its rule on a typed value.
 abbrev pub fitsAt : (k : ℕ) → (meantAt k) .Value → Bool

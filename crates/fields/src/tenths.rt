@@ -10,7 +10,7 @@ use columns::texts::write_blank;
 ghost use mathlib.Core.Path.{_≡_};
 ghost use mathlib.Core.Bool.{cond, _&&_};
 ghost use Rattle.columns.specs.Texts.{sized};
-ghost use Rattle.columns.specs.Decimals.{digitsBefore, digitsAfter, maySign, formatWidth};
+ghost use Rattle.columns.specs.Formats.{digitsBefore, digitsAfter, maySign, formatWidth};
 ghost use Rattle.fields.specs.Tenths.{tenthsGood, tenthsOf, tenthsFit, spellTenths};
 ghost use Rattle.fields.specs.Table.{rangeOf};
 

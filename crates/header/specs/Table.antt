@@ -1,9 +1,9 @@
 -- Document 01, "Header codes": the fourteen fields of a header, a line for each. A field's number is its code.
-use Prim.Native.Nat.{ℕ}
+use Prim.Native.Nat.{ℕ, _-_}
 use mathlib.Core.List.{List, [], _∷_}
 use Rattle.columns.specs.Sets.{is, isText, isMail}
 use Rattle.fields.specs.Kinds.{byte, text, leftText, literal, date, whole, wholeOrBlank}
-use Rattle.fields.specs.Rows.{Row, field, meant, rowAt, Values, _&_, valueAt}
+use Rattle.fields.specs.Rows.{Row, field, meant, Values, _&_, rowBehind, valueBehind}
 use Rattle.header.specs.declared.Header.{Header}
 
 abbrev pub headerTable : List Row
@@ -32,20 +32,5 @@ headerValues h =
 -- and the header that fourteen values make.
 abbrev pub headerFrom : Values headerTable → Header
 headerFrom v =
-    let field : (k : ℕ) → (meant (rowAt headerTable k)) .Value = valueAt headerTable v in
-    record {
-      number = field 1;
-      content = field 2;
-      letter = field 3;
-      origin = field 4;
-      mail = field 5;
-      telephone = field 6;
-      fax = field 7;
-      person = field 8;
-      count = field 9;
-      date = field 10;
-      destination = field 11;
-      serial = field 12;
-      version = field 13;
-      reserve = field 14;
-    }
+    let field : (k : ℕ) → (meant (rowBehind headerTable (k - 1))) .Value = λ k. valueBehind headerTable v (k - 1) in
+    record { number = field 1; content = field 2; letter = field 3; origin = field 4; mail = field 5; telephone = field 6; fax = field 7; person = field 8; count = field 9; date = field 10; destination = field 11; serial = field 12; version = field 13; reserve = field 14 }

@@ -15,3 +15,4 @@ pub mod CallLaws
 pub mod RecordLaws
 pub mod WholeLaws
 pub mod Unique
+pub mod Examples

@@ -9,9 +9,8 @@ use Rattle.columns.specs.Texts.{bytes, head, trimmed, same, endsIn}
 use Rattle.fields.specs.Frequencies.{hasFrequency}
 use Rattle.fields.specs.Tenths.{hasTenths}
 use Rattle.fields.specs.Distances.{hasHeight}
-use Rattle.fields.specs.Rows.{valueAt}
-use Rattle.fields.specs.Table.{stationTable, meantAt}
-use Rattle.station.specs.Members.{valuesOf}
+use Rattle.fields.specs.Table.{meantAt}
+use Rattle.station.specs.Members.{valuesOf, valueAt}
 use Rattle.station.specs.declared.Station.{Station}
 
 -- What is said of a station.
@@ -20,7 +19,7 @@ Fact = Station → Bool
 
 -- The value of field number k passes a test.
 abbrev pub on : (k : ℕ) → ((meantAt k) .Value → Bool) → Fact
-on k test s = test (valueAt stationTable (valuesOf s) k)
+on k test s = test (valueAt (valuesOf s) k)
 
 abbrev pub isnt : Fact → Fact
 isnt fact s = not (fact s)

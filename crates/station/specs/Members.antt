@@ -2,7 +2,7 @@
 use Prim.Native.Nat.{ℕ, suc, _-_}
 use mathlib.Core.List.{List, [], _∷_}
 use lib.ListN.{take, drop}
-use Rattle.fields.specs.Rows.{Row, meant, Values, _&_, valueAt}
+use Rattle.fields.specs.Rows.{Row, meant, Values, _&_, valueBehind}
 use Rattle.fields.specs.Table.{stationTable, meantAt}
 use Rattle.station.specs.declared.Channel.{Channel}
 use Rattle.station.specs.declared.Site.{Site}
@@ -40,10 +40,14 @@ filingValues s rest = s .receive & s .receive & s .remarks & s .status & s .requ
 abbrev pub valuesOf : Station → Values stationTable
 valuesOf s = channelValues (s .channel) (siteValues (s .site) (emissionValues (s .emission) (antennaValues (s .antenna) (filingValues (s .filing) tt))))
 
+-- that of field number k,
+abbrev pub valueAt : Values stationTable → (k : ℕ) → (meantAt k) .Value
+valueAt v k = valueBehind stationTable v (k - 1)
+
 -- and the station that thirty values make.
 abbrev pub stationFrom : Values stationTable → Station
 stationFrom v =
-    let field : (k : ℕ) → (meantAt k) .Value = valueAt stationTable v in
+    let field : (k : ℕ) → (meantAt k) .Value = valueAt v in
     record {
       channel = record { transmit = field 1; category = field 3; class = field 4; service = field 5; users = field 6; carrier = field 7 };
       site = record { started = field 8; name = field 9; country = field 10; position = field 11; radius = field 12; height = field 13 };

@@ -16,7 +16,7 @@ use fields::tenths::write_tenths;
 ghost use mathlib.Core.Path.{_≡_};
 ghost use mathlib.Core.Bool.{true};
 ghost use lib.ListN.{length};
-ghost use Rattle.columns.specs.Decimals.{digitsBefore, digitsAfter, maySign, formatWidth};
+ghost use Rattle.columns.specs.Formats.{digitsBefore, digitsAfter, maySign, formatWidth};
 ghost use Rattle.fields.specs.Distances.{radiusFits, spellRadius, groundFits, spellGround, heightFits, spellHeight};
 ghost use Rattle.fields.specs.Frequencies.{frequencyFits, spellAmount, spellUnit};
 ghost use Rattle.fields.specs.Positions.{positionFits, spellPosition};

@@ -6,7 +6,7 @@ use lib.ListN.{length, replicate}
 use borrow.Author.Tests.{eq-eqb, ne-eqb, not-true, not-false}
 use denote.Ref.{now}
 use Rattle.columns.specs.Texts.{sized}
-use Rattle.columns.specs.Decimals.{digitsBefore, digitsAfter, maySign, formatWidth}
+use Rattle.columns.specs.Formats.{digitsBefore, digitsAfter, maySign, formatWidth}
 use Rattle.columns.proofs.TextLaws.{kept, wrote, and-both}
 use Rattle.fields.specs.Tenths.{tenthsFit, spellTenths}
 use Rattle.fields.specs.Table.{rangeOf}
