@@ -11,7 +11,8 @@ use lib.ListN.{length, drop}
 use Rattle.columns.specs.Sets.{is}
 use Rattle.columns.specs.Texts.{head, tail, ended, skip}
 use Rattle.columns.specs.Numbers.{leading, after, number, numberFrom, amount}
-use Rattle.columns.specs.Decimals.{fractionOf, magnitudeOf, digitsBefore, digitsAfter}
+use Rattle.columns.specs.Decimals.{fractionOf, magnitudeOf}
+use Rattle.columns.specs.Formats.{digitsBefore, digitsAfter}
 use Rattle.columns.specs.declared.numbers.Whole.{Whole}
 use Rattle.columns.specs.declared.numbers.Whole.the-variants as whole
 use Rattle.columns.specs.declared.decimals.Format.{Format}

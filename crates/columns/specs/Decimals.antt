@@ -1,4 +1,4 @@
--- Document 01, "How columns are read" and "Values and the one spelling": decimals with a digits before the point and b after, and the five formats of the paper.
+-- Document 01, "How columns are read" and "Values and the one spelling": decimals with a digits before the point and b after.
 use Prim.Native.Nat.{ℕ, _+_, _-_, _*_, _/_, _^_}
 use mathlib.Core.Bool.{Bool, true, false, cond, not, _&&_, _||_}
 use mathlib.Core.List.{List, [], _∷_, _++_}
@@ -11,8 +11,6 @@ use Rattle.columns.specs.Numbers.{leading, after, number, numberFrom, nu
 use Rattle.columns.specs.declared.numbers.Whole.{Whole}
 use Rattle.columns.specs.declared.numbers.Whole.the-variants as whole
 use Rattle.columns.specs.declared.numbers.Signed.{Signed}
-use Rattle.columns.specs.declared.decimals.Format.{Format}
-use Rattle.columns.specs.declared.decimals.Format.the-variants as format
 
 -- Behind the point: 1 to b digits, spaces. Read onto what stands before the point, it counts units of the b-th place.
 unfoldable pub fractionOf : ℕ → ℕ → List ℕ → Whole
@@ -48,43 +46,3 @@ spellDecimal a b sign z =
 -- A decimal's digits and its sign have their places.
 abbrev pub decimalFits : ℕ → ℕ → Bool → ℤ → Bool
 decimalFits a b sign z = ltb (natAbs z) (10 ^ (a + b)) && (sign || not (isNegative z))
-
--- The five formats: 1A and 1Y 5/5, 8B1 signed 3/1, 9A 3/1, 9B signed 2/1, 9G 2/1. Digits before the point,
-abbrev pub digitsBefore : Format → ℕ
-digitsBefore format.Frequency = 5
-digitsBefore format.Power = 3
-digitsBefore format.Azimuth = 3
-digitsBefore format.Elevation = 2
-digitsBefore format.Gain = 2
-
--- digits after it,
-abbrev pub digitsAfter : Format → ℕ
-digitsAfter format.Frequency = 5
-digitsAfter format.Power = 1
-digitsAfter format.Azimuth = 1
-digitsAfter format.Elevation = 1
-digitsAfter format.Gain = 1
-
--- and whether a sign may stand.
-abbrev pub maySign : Format → Bool
-maySign format.Frequency = false
-maySign format.Power = true
-maySign format.Azimuth = false
-maySign format.Elevation = true
-maySign format.Gain = false
-
--- A decimal of a format: what its columns say,
-abbrev pub formatOf : Format → List ℕ → Signed
-formatOf f p = decimalOf (digitsBefore f) (digitsAfter f) (maySign f) p
-
--- its width,
-abbrev pub formatWidth : Format → ℕ
-formatWidth f = decimalWidth (digitsBefore f) (digitsAfter f) (maySign f)
-
--- the numbers that it can spell,
-abbrev pub formatFits : Format → ℤ → Bool
-formatFits f z = decimalFits (digitsBefore f) (digitsAfter f) (maySign f) z
-
--- and their spelling.
-abbrev pub spellFormat : Format → ℤ → List ℕ
-spellFormat f z = spellDecimal (digitsBefore f) (digitsAfter f) (maySign f) z

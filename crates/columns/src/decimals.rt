@@ -17,7 +17,8 @@ ghost use mathlib.Core.Bool.{cond, _&&_};
 ghost use mathlib.Core.List.{_++_};
 ghost use lib.ListN.{length, take};
 ghost use Prim.Native.Nat.{_+_, _-_, _*_, _^_, _≤_, _<_};
-ghost use Rattle.columns.specs.Decimals.{fractionOf, magnitudeOf, decimalOf, digitsBefore, digitsAfter, maySign, formatOf, formatWidth, formatFits, spellFormat, spellMagnitude, spellDecimal, decimalWidth};
+ghost use Rattle.columns.specs.Decimals.{fractionOf, magnitudeOf, decimalOf, spellMagnitude, spellDecimal, decimalWidth};
+ghost use Rattle.columns.specs.Formats.{digitsBefore, digitsAfter, maySign, formatOf, formatWidth, formatFits, spellFormat};
 ghost use Rattle.columns.specs.Texts.{sized};
 
 // The field that a decimal stands in: it decides the digits before the point and after it, and the sign.

@@ -24,9 +24,6 @@ use Rattle.columns.proofs.ColumnLaws.{Column, text-column, each-sized, one-size
 use Rattle.fields.specs.Tenths.{inTenths, tenthsGood, tenthsOf, tenthsFit, spellTenths}
 use Rattle.fields.specs.Frequencies.{aboveZero, amountGood, unitGood, unitOf, unitLetter, inUnit, frequencyOf, frequencyFits, spellAmount, spellUnit}
 use Rattle.fields.specs.Distances.{radiusOf, radiusFits, spellRadius, groundOf, groundFits, spellGround, heightRange, inMetres, heightGood, heightOf, heightFits, spellHeight}
-use Rattle.fields.specs.Emission.{emissionGood}
-use Rattle.fields.specs.Remarks.{remarksGood}
-use Rattle.fields.specs.Codes.{classGood, serviceGood, isUser, usersGood, nameGood, countryGood, polarisationGood, antennaGood, referenceGood}
 use Rattle.fields.specs.declared.tenths.Tenths.{Tenths}
 use Rattle.fields.specs.declared.tenths.Tenths.the-variants as tenths
 use Rattle.fields.specs.declared.frequencies.Hertz.{Hertz}
@@ -221,49 +218,3 @@ height-read p e = by (signedOf p) e where
 
 pub height-column : Column 4 heightGood heightOf heightFits spellHeight
 height-column = record { wide = λ v e. height-wide v; kept = height-kept; back = height-back; read = λ p l e. height-read p e }
-
--- ---- text and codes that are kept as their bytes: each rule says the field's width
-
--- a width that is asked for first
-width-first : (w : ℕ) (p : List ℕ) (rest : Bool) → (sized w p && rest) ≡ true → length p ≡ w
-width-first w p rest e = eqb-true (length p) w (and-split (sized w p) rest e .0)
-
-pub class-column : Column 2 classGood (λ p. p) classGood (λ p. p)
-unfolding classGood
-class-column = text-column 2 classGood (λ p e. one-sized 2 ("FB" ∷ "FL" ∷ "ML" ∷ []) p (refl, (refl, (refl, tt))) e)
-
-pub service-column : Column 2 serviceGood (λ p. p) serviceGood (λ p. p)
-unfolding serviceGood
-service-column = text-column 2 serviceGood (λ p e. one-sized 2 ("CO" ∷ "CP" ∷ "CR" ∷ "CV" ∷ "OT" ∷ []) p (refl, (refl, (refl, (refl, (refl, tt))))) e)
-
-pub polarisation-column : Column 2 polarisationGood (λ p. p) polarisationGood (λ p. p)
-unfolding polarisationGood
-polarisation-column = text-column 2 polarisationGood (λ p e. one-sized 2 ("H " ∷ "V " ∷ "SR" ∷ "SL" ∷ "CR" ∷ "CL" ∷ "D " ∷ "M " ∷ []) p (refl, (refl, (refl, (refl, (refl, (refl, (refl, (refl, tt)))))))) e)
-
-pub users-column : Column 2 usersGood (λ p. p) usersGood (λ p. p)
-unfolding usersGood
-users-column = text-column 2 usersGood (λ p e. each-sized (isUser ∷ (λ c. isUser c || is " " c) ∷ []) p e)
-
-pub name-column : Column 20 nameGood (λ p. p) nameGood (λ p. p)
-unfolding nameGood
-name-column = text-column 20 nameGood (λ p e. each-sized (replicate 4 isDigit ++ (exactly "_" ++ replicate 15 isName)) p e)
-
-pub antenna-column : Column 7 antennaGood (λ p. p) antennaGood (λ p. p)
-unfolding antennaGood
-antenna-column = text-column 7 antennaGood (λ p e. each-sized (replicate 3 isDigit ++ (replicate 2 isUpper ++ replicate 2 isDigit)) p e)
-
-pub reference-column : Column 15 referenceGood (λ p. p) referenceGood (λ p. p)
-unfolding referenceGood
-reference-column = text-column 15 referenceGood (λ p e. each-sized (exactly "AUT" ++ (replicate 4 isDigit ++ (replicate 5 isNarrow ++ replicate 3 isDigit))) p e)
-
-pub country-column : Column 3 countryGood (λ p. p) countryGood (λ p. p)
-unfolding countryGood
-country-column = text-column 3 countryGood (λ p e. width-first 3 p (not (blank p) && every isUpper (trimmed p)) e)
-
-pub emission-column : Column 9 emissionGood (λ p. p) emissionGood (λ p. p)
-unfolding emissionGood
-emission-column = text-column 9 emissionGood (λ p e. width-first 9 p _ e)
-
-pub remarks-column : Column 50 remarksGood (λ p. p) remarksGood (λ p. p)
-unfolding remarksGood
-remarks-column = text-column 50 remarksGood (λ p e. width-first 50 p _ e)

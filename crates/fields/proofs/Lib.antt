@@ -5,9 +5,12 @@ pub mod CountLaws
 pub mod DistanceLaws
 pub mod FieldColumns
 pub mod FrequencyLaws
+pub mod KindLaws
 pub mod LetterLaws
 pub mod PlaceLaws
 pub mod PositionColumn
+pub mod RowLaws
+pub mod SerialColumn
 pub mod SignedLaws
 pub mod TenthsLaws
 pub mod TrimLaws

@@ -11,7 +11,7 @@ use mir.Syntax.{w64}
 use mir.Val.{toZ, ofZ}
 use borrow.Author.Tests.{eq-eqb}
 use Rattle.columns.specs.Texts.{sized}
-use Rattle.columns.specs.Decimals.{formatWidth, formatFits, spellFormat}
+use Rattle.columns.specs.Formats.{formatWidth, formatFits, spellFormat}
 use Rattle.columns.specs.declared.decimals.Format.{Format}
 use Rattle.columns.proofs.Signs.{in-bits}
 use Rattle.columns.proofs.TextLaws.{and-both}

@@ -3,12 +3,13 @@
 use mathlib.Core.Path.{_≡_}
 use mathlib.Core.Bool.{Bool, true, false}
 use lib.IntN.{ℤ}
-use Rattle.columns.specs.Decimals.{digitsBefore, digitsAfter, maySign, formatFits}
+use Rattle.columns.specs.Formats.{digitsBefore, digitsAfter, maySign, formatFits}
 use Rattle.columns.specs.declared.decimals.Format.{Format}
 use Rattle.columns.proofs.TextLaws.{and-split}
 use Rattle.fields.specs.declared.tenths.Tenths.{Tenths}
 use Rattle.fields.specs.declared.tenths.Tenths.the-variants as tenths
-use Rattle.fields.specs.Tenths.{rangeOf, tenthsFit}
+use Rattle.fields.specs.Tenths.{tenthsFit}
+use Rattle.fields.specs.Table.{rangeOf}
 
 -- a filled value does not fit where its digits lack their places,
 pub fit-not : (f : Format) (z : ℤ) {v : Tenths} → v ≡ tenths.Filled z → formatFits f z ≡ false → false ≡ tenthsFit (digitsBefore f) (digitsAfter f) (maySign f) (rangeOf f) v

@@ -4,4 +4,7 @@ pub mod Distances
 pub mod Positions
 pub mod Emission
 pub mod Remarks
-pub mod Codes
+pub mod Serials
+pub mod Kinds
+pub mod Rows
+pub mod Table

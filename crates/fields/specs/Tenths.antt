@@ -9,8 +9,6 @@ use Rattle.columns.specs.Numbers.{passes}
 use Rattle.columns.specs.Decimals.{decimalOf, decimalFits, decimalWidth, spellDecimal}
 use Rattle.columns.specs.declared.numbers.Signed.{Signed}
 use Rattle.columns.specs.declared.numbers.Signed.the-variants as signed
-use Rattle.columns.specs.declared.decimals.Format.{Format}
-use Rattle.columns.specs.declared.decimals.Format.the-variants as format
 use Rattle.fields.specs.declared.tenths.Tenths.{Tenths}
 use Rattle.fields.specs.declared.tenths.Tenths.the-variants as tenths
 
@@ -21,14 +19,6 @@ anyNumber z = true
 -- At most n units from zero.
 abbrev pub upTo : ℕ → ℤ → Bool
 upTo n z = leb (natAbs z) n
-
--- The range of a format: 9A 0.0 to 359.9, 9B -90.0 to 90.0; the others have none of their own.
-abbrev pub rangeOf : Format → ℤ → Bool
-rangeOf format.Frequency = anyNumber
-rangeOf format.Power = anyNumber
-rangeOf format.Azimuth = upTo 3599
-rangeOf format.Elevation = upTo 900
-rangeOf format.Gain = anyNumber
 
 -- The answer as a typed value; what cannot be read is never taken for a number.
 abbrev pub inTenths : Signed → Tenths

@@ -6,7 +6,7 @@ use columns::texts::equal;
 ghost use mathlib.Core.Path.{_≡_};
 ghost use mathlib.Core.Bool.{_||_};
 ghost use Rattle.columns.specs.Texts.{same};
-ghost use Rattle.fields.specs.Codes.{isCategory, classGood, serviceGood, isUser, usersGood, isCarrier, nameGood, countryGood, isBasis, polarisationGood, antennaGood, isStatus, referenceGood};
+ghost use Rattle.fields.specs.Table.{fitsAt, isUser};
 
 // One of two texts.
 pub fn is_either(s: &[u8], a: &[u8], b: &[u8]) -> bool
@@ -30,7 +30,7 @@ fn is_any(s: &[u8], a: &[u8], b: &[u8], c: &[u8], d: &[u8]) -> bool
 
 // 1Z, the category of a frequency: 1 to 8.
 pub fn is_category(c: u8) -> bool
-    ensures { λ r. ⌜ r ≡ isCategory c ⌝ }
+    ensures { λ r. ⌜ r ≡ fitsAt 3 c ⌝ }
 {
     match c {
         b'1'..=b'8' => true,
@@ -40,7 +40,7 @@ pub fn is_category(c: u8) -> bool
 
 // 6A, the class of the station: FB, FL, ML.
 pub fn is_class(s: &[u8]) -> bool
-    ensures { λ r. ⌜ r ≡ classGood (now (s .entry)) ⌝ }
+    ensures { λ r. ⌜ r ≡ fitsAt 4 (now (s .entry)) ⌝ }
 {
     if is_either(s, b"FB", b"FL") {
         return true;
@@ -50,7 +50,7 @@ pub fn is_class(s: &[u8]) -> bool
 
 // 6B, the nature of the service: CO, CP, CR, CV, OT.
 pub fn is_service(s: &[u8]) -> bool
-    ensures { λ r. ⌜ r ≡ serviceGood (now (s .entry)) ⌝ }
+    ensures { λ r. ⌜ r ≡ fitsAt 5 (now (s .entry)) ⌝ }
 {
     if is_any(s, b"CO", b"CP", b"CR", b"CV") {
         return true;
@@ -70,7 +70,7 @@ fn is_user(c: u8) -> bool
 
 // 6Z, the category of users: two letters, J never; the second may be a space.
 pub fn is_users(s: &[u8]) -> bool
-    ensures { λ r. ⌜ r ≡ usersGood (now (s .entry)) ⌝ }
+    ensures { λ r. ⌜ r ≡ fitsAt 6 (now (s .entry)) ⌝ }
 {
     if s.len() != 2 {
         return false;
@@ -86,7 +86,7 @@ pub fn is_users(s: &[u8]) -> bool
 
 // 10Z, the carrier: 0 or 1.
 pub fn is_carrier(c: u8) -> bool
-    ensures { λ r. ⌜ r ≡ isCarrier c ⌝ }
+    ensures { λ r. ⌜ r ≡ fitsAt 7 c ⌝ }
 {
     match c {
         b'0'..=b'1' => true,
@@ -96,7 +96,7 @@ pub fn is_carrier(c: u8) -> bool
 
 // 4A, the name of the station: four digits, an underscore, and fifteen bytes of the name.
 pub fn is_station_name(s: &[u8]) -> bool
-    ensures { λ r. ⌜ r ≡ nameGood (now (s .entry)) ⌝ }
+    ensures { λ r. ⌜ r ≡ fitsAt 9 (now (s .entry)) ⌝ }
 {
     if s.len() != 20 {
         return false;
@@ -112,7 +112,7 @@ pub fn is_station_name(s: &[u8]) -> bool
 
 // 4B, the country: one to three letters, then spaces.
 pub fn is_country(s: &[u8]) -> bool
-    ensures { λ r. ⌜ r ≡ countryGood (now (s .entry)) ⌝ }
+    ensures { λ r. ⌜ r ≡ fitsAt 10 (now (s .entry)) ⌝ }
 {
     if s.len() != 3 {
         return false;
@@ -134,7 +134,7 @@ pub fn is_country(s: &[u8]) -> bool
 
 // 8B2, what the power refers to: E or I.
 pub fn is_basis(c: u8) -> bool
-    ensures { λ r. ⌜ r ≡ isBasis c ⌝ }
+    ensures { λ r. ⌜ r ≡ fitsAt 16 c ⌝ }
 {
     match c {
         b'E' | b'I' => true,
@@ -144,7 +144,7 @@ pub fn is_basis(c: u8) -> bool
 
 // 9D, the polarisation: H, V, SR, SL, CR, CL, D, M; one letter is followed by a space.
 pub fn is_polarisation(s: &[u8]) -> bool
-    ensures { λ r. ⌜ r ≡ polarisationGood (now (s .entry)) ⌝ }
+    ensures { λ r. ⌜ r ≡ fitsAt 19 (now (s .entry)) ⌝ }
 {
     if is_any(s, b"H ", b"V ", b"SR", b"SL") {
         return true;
@@ -154,7 +154,7 @@ pub fn is_polarisation(s: &[u8]) -> bool
 
 // 9XH and 9XV, the types of antenna: three digits, two letters, two digits.
 pub fn is_antenna(s: &[u8]) -> bool
-    ensures { λ r. ⌜ r ≡ antennaGood (now (s .entry)) ⌝ }
+    ensures { λ r. ⌜ r ≡ fitsAt 22 (now (s .entry)) ⌝ }
 {
     if s.len() != 7 {
         return false;
@@ -170,7 +170,7 @@ pub fn is_antenna(s: &[u8]) -> bool
 
 // 13Y, the status of the coordination: F or B.
 pub fn is_status(c: u8) -> bool
-    ensures { λ r. ⌜ r ≡ isStatus c ⌝ }
+    ensures { λ r. ⌜ r ≡ fitsAt 27 c ⌝ }
 {
     match c {
         b'F' | b'B' => true,
@@ -180,7 +180,7 @@ pub fn is_status(c: u8) -> bool
 
 // 13X, the reference: AUT, four digits, five bytes of the narrow set, three digits.
 pub fn is_reference(s: &[u8]) -> bool
-    ensures { λ r. ⌜ r ≡ referenceGood (now (s .entry)) ⌝ }
+    ensures { λ r. ⌜ r ≡ fitsAt 30 (now (s .entry)) ⌝ }
 {
     if s.len() != 15 {
         return false;

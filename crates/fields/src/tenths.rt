@@ -10,8 +10,9 @@ use columns::texts::write_blank;
 ghost use mathlib.Core.Path.{_≡_};
 ghost use mathlib.Core.Bool.{cond, _&&_};
 ghost use Rattle.columns.specs.Texts.{sized};
-ghost use Rattle.columns.specs.Decimals.{digitsBefore, digitsAfter, maySign, formatWidth};
-ghost use Rattle.fields.specs.Tenths.{rangeOf, tenthsGood, tenthsOf, tenthsFit, spellTenths};
+ghost use Rattle.columns.specs.Formats.{digitsBefore, digitsAfter, maySign, formatWidth};
+ghost use Rattle.fields.specs.Tenths.{tenthsGood, tenthsOf, tenthsFit, spellTenths};
+ghost use Rattle.fields.specs.Table.{rangeOf};
 
 // A number of tenths (of a dBW, a degree or a dB), or none. Blank is never zero.
 pub enum Tenths {

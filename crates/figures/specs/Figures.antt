@@ -1,34 +1,17 @@
 -- Document 01, "Worked figures": those marked P, as one table under one statement.
 use Prim.Native.Nat.{ℕ}
 use Prim.Native.String.{String}
-use mathlib.Core.Path.{_≡_, refl}
+use mathlib.Core.Path.{_≡_}
 use mathlib.Core.Bool.{cond}
 use mathlib.Core.List.{List, [], _∷_}
 use lib.Dec.{eqb}
-use lib.IntN.{ℤ, pos, negsuc, negℤ}
+use lib.IntN.{ℤ, pos, negℤ}
 use Rattle.fields.specs.declared.frequencies.Frequency.{Frequency}
 use Rattle.fields.specs.declared.frequencies.Frequency.the-variants as frequency
 use Rattle.fields.specs.declared.tenths.Tenths.{Tenths}
 use Rattle.fields.specs.declared.tenths.Tenths.the-variants as tenths
 use Rattle.fields.specs.declared.distances.Height.{Height}
 use Rattle.fields.specs.declared.distances.Height.the-variants as height
-use Rattle.columns.specs.Sets.{among, isHex, isNarrow, isText, isName}
-use Rattle.columns.specs.Texts.{skip, trimmed, every, howMany, each, byteGood, same, oneOf}
-use Rattle.columns.specs.Numbers.{leading, numberFrom, wholeDigits, wholeOf, unsigned, signedOf}
-use Rattle.columns.specs.Decimals.{fractionOf, magnitudeOf, decimalOf}
-use Rattle.columns.specs.Dates.{dateRule, dateIn, dateOf, dayGood, dayOf}
-use Rattle.fields.specs.Tenths.{tenthsGood, tenthsOf}
-use Rattle.fields.specs.Frequencies.{amountGood, unitGood, unitOf, frequencyOf}
-use Rattle.fields.specs.Distances.{radiusOf, groundOf, heightGood, heightOf}
-use Rattle.fields.specs.Positions.{arcSeconds, arcGood, arcOf, positionGood, positionOf}
-use Rattle.fields.specs.Emission.{bandwidthGood, detailGood, emissionGood}
-use Rattle.fields.specs.Remarks.{cellGood, installationGood, remarksGood}
-use Rattle.fields.specs.Codes.{isCategory, classGood, serviceGood, usersGood, isCarrier, nameGood, countryGood, isBasis, polarisationGood, antennaGood, isStatus, referenceGood}
-use Rattle.filing.specs.Rules.{firstBroken}
-use Rattle.station.specs.Places.{fieldsOf}
-use Rattle.station.specs.Rules.{fieldRules, channelFields, siteFields, emissionFields, antennaFields, filingFields}
-use Rattle.station.specs.Between.{mobile, roundAntenna, firstBetween, lastBetween, betweenRules}
-use Rattle.station.specs.Values.{stationOf}
 use Rattle.station.specs.Codes.{stationCode, valueOf}
 use Rattle.station.specs.declared.Station.{Station}
 use Rattle.figures.specs.Samples.{sWith}
@@ -94,41 +77,3 @@ table =
     figure 17 "359.9" 0 (pos 3599 ∷ []) ∷
     figure 17 "360.0" 17 [] ∷
     []
-
--- They hold of the rules.
-pub figures-hold : AllHold table
-unfolding Holds among isHex isNarrow isText isName skip trimmed every howMany each byteGood same oneOf leading numberFrom wholeDigits wholeOf unsigned signedOf fractionOf magnitudeOf decimalOf dateRule dateIn dateOf dayGood dayOf tenthsGood tenthsOf amountGood unitGood unitOf frequencyOf radiusOf groundOf heightGood heightOf arcSeconds arcGood arcOf positionGood positionOf bandwidthGood detailGood emissionGood cellGood installationGood remarksGood isCategory classGood serviceGood usersGood isCarrier nameGood countryGood isBasis polarisationGood antennaGood isStatus referenceGood firstBroken fieldsOf fieldRules channelFields siteFields emissionFields antennaFields filingFields mobile roundAntenna firstBetween lastBetween betweenRules stationOf valueOf stationCode
-figures-hold = (
-  (refl, refl),
-  (
-    (refl, refl),
-    (
-      (refl, refl),
-      (
-        (refl, refl),
-        (
-          (refl, refl),
-          (
-            (refl, refl),
-            (
-              (refl, refl),
-              (
-                (refl, refl),
-                (
-                  (refl, refl),
-                  (
-                    (refl, refl),
-                    (
-                      (refl, refl),
-                      tt,
-                    ),
-                  ),
-                ),
-              ),
-            ),
-          ),
-        ),
-      ),
-    ),
-  ),
-)

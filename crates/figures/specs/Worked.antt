@@ -1,45 +1,20 @@
 -- Document 01, "Worked figures": the sheets of station S, its code and its one spelling, and the header's traps, computed from the definitions.
 use Prim.Native.Nat.{ℕ}
 use Prim.Native.String.{String}
-use mathlib.Core.Path.{_≡_, refl}
+use mathlib.Core.Path.{_≡_}
 use mathlib.Core.List.{List, [], _∷_, _++_}
-use Rattle.columns.specs.Sets.{among, isHex, isNarrow, isText, isName, isMail}
-use Rattle.columns.specs.Texts.{skip, trimmed, every, howMany, each, byteGood, same, oneOf, textGood, bytes}
-use Rattle.columns.specs.Numbers.{leading, numberFrom, wholeDigits, wholeOf, unsigned, signedOf, spellDigits, spellSigned}
-use Rattle.columns.specs.Decimals.{fractionOf, magnitudeOf, decimalOf, spellMagnitude, spellDecimal}
-use Rattle.columns.specs.Dates.{dateRule, dateIn, dateOf, dayGood, dayOf, dateGood, dateFits, dayFits, spellDate, spellDay}
-use Rattle.fields.specs.Tenths.{tenthsGood, tenthsOf, tenthsFit, spellTenths}
-use Rattle.fields.specs.Frequencies.{amountGood, unitGood, unitOf, frequencyOf, frequencyFits, unitLetter, spellAmount, spellUnit}
-use Rattle.fields.specs.Distances.{radiusOf, groundOf, heightGood, heightOf, radiusFits, groundFits, heightFits, spellRadius, spellGround, spellHeight}
-use Rattle.fields.specs.Positions.{arcSeconds, arcGood, arcOf, positionGood, positionOf, positionFits, spellArc, spellPosition}
-use Rattle.fields.specs.Emission.{bandwidthGood, detailGood, emissionGood}
-use Rattle.fields.specs.Remarks.{cellGood, installationGood, remarksGood}
-use Rattle.fields.specs.Codes.{isCategory, classGood, serviceGood, usersGood, isCarrier, nameGood, countryGood, isBasis, polarisationGood, antennaGood, isStatus, referenceGood}
-use Rattle.filing.specs.Rules.{firstBroken}
-use Rattle.station.specs.Places.{fieldsOf}
-use Rattle.station.specs.Rules.{fieldRules, channelFields, siteFields, emissionFields, antennaFields, filingFields, channelRules, siteRules, emissionRules, antennaRules, filingRules, typedRules}
-use Rattle.station.specs.Between.{mobile, roundAntenna, firstBetween, lastBetween, betweenRules}
-use Rattle.station.specs.Values.{stationOf}
-use Rattle.station.specs.Spelling.{channelPieces, sitePieces, emissionPieces, antennaPieces, filingPieces, stationPieces, spellStation}
+use Rattle.columns.specs.Texts.{bytes}
+use Rattle.station.specs.Spelling.{spellStation}
 use Rattle.station.specs.Codes.{valueOf, stationCode, typedCode}
-use Rattle.lists.specs.Fields.{trimmedField, paddedField}
-use Rattle.lists.specs.Lines.{lineOf, before, behind, split, lineFields, isLine}
-use Rattle.lists.specs.Lines as lines
-use Rattle.filing.specs.Outcomes.{refusal, codeWith, ifDone, firstRefusal}
+use Rattle.lists.specs.Lines.{lineOf}
 use Rattle.lists.specs.Calls.{lineOutcome, stationInLine}
-use Rattle.header.specs.Places.{headerFields}
-use Rattle.header.specs.Values.{serialGood, serialOf, headerOf}
-use Rattle.header.specs.Rules.{headerRules}
-use Rattle.header.specs.Codes.{headerValue, headerCode, filedHeaderCode}
-use Rattle.files.specs.Files.{stations, recordAt, withRecord, tooLong, notRecords, placesOf, fieldAt, fieldCount}
+use Rattle.header.specs.Values.{headerOf}
+use Rattle.header.specs.Codes.{headerCode, filedHeaderCode}
 use Rattle.files.specs.Calls.{showOutcome, shownField}
-use Rattle.stations.specs.Stations.{codeAt, referenceAt}
-use Rattle.sheet.specs.Sheets.{twinAt, rowOf, judgedSheet, sheetOf}
-use Rattle.sheet.specs.Forms.{rowAt, badAt, trailerOf, closed, headAt, fitsForm}
-use Rattle.sheet.specs.Replacing.{touched, mendedRow, writes, rowsWritten}
-use Rattle.sheet.specs.Replacing as replacing
-use Rattle.sheet.specs.Calls.{replaceOutcome, replacedSheet, replacedRows}
-use Rattle.figures.specs.Figures.{Figure, figure, minus, Holds, AllHold}
+use Rattle.sheet.specs.Sheets.{sheetOf}
+use Rattle.sheet.specs.Calls.{replacedSheet, replacedRows}
+use Rattle.filing.specs.Outcomes.{refusal, codeWith}
+use Rattle.figures.specs.Figures.{Figure, figure, minus, AllHold}
 use lib.IntN.{pos}
 use Rattle.figures.specs.Samples as samples
 use Rattle.figures.specs.Samples.{recordOf, stationS, sWith, headerWith}
@@ -157,99 +132,3 @@ pub record Worked : Type 0 where
   pub shown : shownField two 2 30 ≡ bytes "AUT2311AB01A001"
   pub not-shown : shownField two 0 15 ≡ []
   pub no-field : refusal (showOutcome two 0 15) ≡ 8
-
-pub worked : Worked
-unfolding Holds among isHex isNarrow isText isName skip trimmed every howMany each byteGood same oneOf leading numberFrom wholeDigits wholeOf unsigned signedOf fractionOf magnitudeOf decimalOf dateRule dateIn dateOf dayGood dayOf tenthsGood tenthsOf amountGood unitGood unitOf frequencyOf radiusOf groundOf heightGood heightOf arcSeconds arcGood arcOf positionGood positionOf bandwidthGood detailGood emissionGood cellGood installationGood remarksGood isCategory classGood serviceGood usersGood isCarrier nameGood countryGood isBasis polarisationGood antennaGood isStatus referenceGood firstBroken fieldsOf fieldRules channelFields siteFields emissionFields antennaFields filingFields mobile roundAntenna firstBetween lastBetween betweenRules stationOf valueOf stationCode isMail textGood dateGood serialGood serialOf headerOf headerFields headerRules headerValue headerCode filedHeaderCode stations recordAt withRecord referenceAt codeAt tooLong notRecords placesOf fieldAt fieldCount twinAt rowOf rowAt badAt trailerOf closed judgedSheet sheetOf headAt fitsForm touched mendedRow replacing.mendedSheet writes rowsWritten refusal ifDone firstRefusal replaceOutcome replacedSheet replacedRows showOutcome shownField frequencyFits dayFits radiusFits groundFits heightFits positionFits tenthsFit channelRules siteRules emissionRules antennaRules filingRules typedRules typedCode spellDigits spellMagnitude spellDecimal spellSigned spellDate spellDay spellTenths unitLetter spellAmount spellUnit spellRadius spellGround spellHeight spellArc spellPosition channelPieces sitePieces emissionPieces antennaPieces filingPieces stationPieces spellStation trimmedField paddedField lineOf before behind split lineFields isLine lines.recordOf codeWith lineOutcome stationInLine
-worked = record {
-  traps-hold = (
-    (refl, refl),
-    (
-      (refl, refl),
-      (
-        (refl, refl),
-        (
-          (refl, refl),
-          (
-            (refl, refl),
-            (
-              (refl, refl),
-              (
-                (refl, refl),
-                (
-                  (refl, refl),
-                  (
-                    (refl, refl),
-                    (
-                      (refl, refl),
-                      (
-                        (refl, refl),
-                        (
-                          (refl, refl),
-                          (
-                            (refl, refl),
-                            (
-                              (refl, refl),
-                              (
-                                (refl, refl),
-                                (
-                                  (refl, refl),
-                                  (
-                                    (refl, refl),
-                                    (
-                                      (refl, refl),
-                                      (
-                                        (refl, refl),
-                                        (
-                                          (refl, refl),
-                                          (
-                                            (refl, refl),
-                                            (
-                                              (refl, refl),
-                                              (
-                                                (refl, refl),
-                                                tt,
-                                              ),
-                                            ),
-                                          ),
-                                        ),
-                                      ),
-                                    ),
-                                  ),
-                                ),
-                              ),
-                            ),
-                          ),
-                        ),
-                      ),
-                    ),
-                  ),
-                ),
-              ),
-            ),
-          ),
-        ),
-      ),
-    ),
-  );
-  s-code = refl;
-  s-typed = refl;
-  s-spelling = refl;
-  s-line = refl;
-  s-kept = refl;
-  rule-last = (refl, refl);
-  long-field = refl;
-  semicolons-first = refl;
-  two-judged = refl;
-  two-mended = refl;
-  two-rows = refl;
-  header-alone = refl;
-  wrong-count = refl;
-  count-unasked = refl;
-  zero-for-o = refl;
-  at-in-text = refl;
-  bracket = refl;
-  blank-date = refl;
-  shown = refl;
-  not-shown = refl;
-  no-field = refl;
-}

@@ -1,3 +1,2 @@
-pub mod SerialColumn
 pub mod RoundTrip
 pub mod Unique

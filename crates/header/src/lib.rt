@@ -1,17 +1,12 @@
 // A header as typed values.
 use columns::dates::Day;
+use fields::serials::Serial;
 
 pub mod judging;
 pub mod places;
 pub mod reading;
 mod values;
 pub mod writing;
-
-// The header's own file number, field 12, which may be left out.
-pub enum Serial {
-    Blank,
-    Filled(u64),
-}
 
 // The header of a file, field by field.
 pub struct Header {

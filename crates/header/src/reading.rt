@@ -1,6 +1,5 @@
 // A header read from its record.
 use crate::Header;
-use crate::Serial;
 use crate::judging::check_header;
 use crate::values::amount_in;
 use crate::values::serial_in;
@@ -12,6 +11,7 @@ use columns::keeping::text20;
 use columns::keeping::text40;
 use columns::keeping::text80;
 use columns::texts::byte;
+use fields::serials::Serial;
 use filing::Outcome;
 use filing::outcomes::is_done;
 ghost use mathlib.Core.Path.{_≡_};

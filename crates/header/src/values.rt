@@ -1,5 +1,4 @@
 // The values of single fields, as the header's rules take them.
-use crate::Serial;
 use columns::dates::Dated;
 use columns::dates::Day;
 use columns::dates::is_date;
@@ -7,12 +6,13 @@ use columns::dates::read_date;
 use columns::numbers::Whole;
 use columns::numbers::fits_whole;
 use columns::numbers::read_whole;
+use fields::serials::Serial;
 ghost use mathlib.Core.Path.{_≡_};
 ghost use Rattle.columns.specs.Sets.{is};
 ghost use Rattle.columns.specs.Texts.{byteGood};
 ghost use Rattle.columns.specs.Numbers.{wholeOf, wholeFilled, amount};
 ghost use Rattle.columns.specs.Dates.{dateGood, dateFits};
-ghost use Rattle.header.specs.Values.{serialGood, serialOf, serialFits};
+ghost use Rattle.fields.specs.Serials.{serialGood, serialOf, serialFits};
 
 // A whole number is there.
 pub(crate) fn is_whole(s: &[u8]) -> bool

@@ -1,6 +1,5 @@
 // A header written into a lent buffer, each field straight into its own columns.
 use crate::Header;
-use crate::Serial;
 use crate::values::fits_date;
 use crate::values::fits_serial;
 use crate::values::is_o;
@@ -13,6 +12,7 @@ use columns::texts::is_left_text;
 use columns::texts::write_blank;
 use columns::texts::write_byte;
 use columns::texts::write_text;
+use fields::serials::Serial;
 use filing::Outcome;
 use filing::rules::first_broken;
 ghost use mathlib.Core.Path.{_≡_};
@@ -22,7 +22,7 @@ ghost use Rattle.columns.specs.Dates.{dateFits};
 ghost use Rattle.filing.specs.Fields.{joined};
 ghost use Rattle.filing.specs.Rules.{firstBroken};
 ghost use Rattle.header.specs.Rules.{typedHeaderRules};
-ghost use Rattle.header.specs.Values.{spellSerial};
+ghost use Rattle.fields.specs.Serials.{spellSerial};
 ghost use Rattle.header.specs.Spelling.{headerPieces, spellHeader};
 ghost use Rattle.header.specs.Codes.{typedHeaderCode};
 ghost use Rattle.header.specs.Promises.{HeaderJudged, HeaderWritten};

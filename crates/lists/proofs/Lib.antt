@@ -9,8 +9,10 @@ pub mod SizeLaws
 pub mod CountLaws
 pub mod MarkLaws
 pub mod FillLaws
+pub mod KindPieces
 pub mod OutLaws
 pub mod CallLaws
 pub mod RecordLaws
 pub mod WholeLaws
 pub mod Unique
+pub mod Examples

@@ -6,20 +6,21 @@ use mathlib.Core.List.{List, [], _∷_, _++_}
 use Prim.Native.Nat.{ℕ, _-_, _≤_}
 use native.Mathlib.Omega.{arith}
 use lib.Dec.{leb, eqb}
-use lib.ListN.{length, getD, take, drop, length-append, length-drop}
+use lib.ListN.{length, take, drop, length-append, length-drop}
 use lib.Seq.{take-at}
 use borrow.Author.Tests.{eq-eqb, le-leb, leb-true}
-use Rattle.columns.specs.Texts.{howMany}
-use Rattle.fields.specs.Codes.{isCategory, isCarrier, isBasis, isStatus}
-use Rattle.columns.specs.Sets.{among}
+use Rattle.columns.specs.Texts.{howMany, every}
+use Rattle.fields.specs.Table.{stationTable}
+use Rattle.columns.specs.Sets.{among, isName, isText, isNarrow}
 use Rattle.filing.specs.Fields.{cut, joined}
 use Rattle.filing.specs.Rules.{All}
 use Rattle.filing.proofs.FieldLaws.{cut-joined}
-use Rattle.filing.proofs.RuleLaws.{all-hold, all-front, rule}
+use Rattle.filing.proofs.RuleLaws.{all-hold, all-front}
 use Rattle.station.specs.Places.{stationPlaces, fieldsOf}
-use Rattle.station.specs.Rules.{channelRules, siteRules, emissionRules, antennaRules, filingRules, typedRules}
+use Rattle.station.specs.Members.{valuesOf}
+use Rattle.station.specs.Rules.{typedRules}
 use Rattle.station.specs.Between.{betweenRules}
-use Rattle.station.specs.Spelling.{channelPieces, sitePieces, emissionPieces, antennaPieces, filingPieces, stationPieces, spellStation}
+use Rattle.station.specs.Spelling.{stationPieces, spellStation}
 use Rattle.station.specs.Codes.{typedCode}
 use Rattle.station.specs.declared.Station.{Station}
 use Rattle.station.proofs.RoundTrip.{write-keeps, read-back}
@@ -30,8 +31,7 @@ use Rattle.lists.specs.Calls.{lineOutcome, stationInLine, writeLineOutco
 use Rattle.filing.specs.declared.Outcome.the-variants as outcome
 use Rattle.lists.proofs.LineLaws.{AllPlain, split-joined, semicolons, one-feed, feed-last}
 use Rattle.lists.proofs.PieceLaws.{Pieces, pieces-wide, pieces-plain, pieces-short, pieces-back}
-use Rattle.lists.proofs.FieldPieces.{byte-piece, amount-piece, unit-piece, tenths-piece, radius-piece, ground-piece, height-piece, day-piece, position-piece}
-use Rattle.lists.proofs.TextPieces.{class-piece, service-piece, polarisation-piece, users-piece, name-piece, antenna-piece, reference-piece, country-piece, emission-piece, remarks-piece}
+use Rattle.lists.proofs.KindPieces.{table-pieces}
 
 -- thirty fields make a line
 marked : (ps : List (List ℕ)) → AllPlain ps → length ps ≡ 30 → isLine (joinedLine ps) ≡ true
@@ -44,101 +44,10 @@ marked (p ∷ ps) h n =
 
 -- A typed station whose values keep their rules.
 module _ (s : Station) (h : All (typedRules s)) where
-  -- the rule of code k
-  holds : (k : ℕ) → getD (typedRules s) (k - 1) true ≡ true
-  holds = rule (typedRules s) h
-
   -- each field is spelled on its padding side and without a mark
   pieces-listed : Pieces stationSides stationPlaces (stationPieces s)
-  unfolding stationPieces channelPieces sitePieces emissionPieces antennaPieces filingPieces typedRules channelRules siteRules emissionRules antennaRules filingRules
-  pieces-listed = (
-    amount-piece (s .channel .transmit),
-    (
-      unit-piece (s .channel .transmit),
-      (
-        byte-piece isCategory (unfold isCategory in refl) (s .channel .category) (holds 3),
-        (
-          class-piece (s .channel .class) (holds 4),
-          (
-            service-piece (s .channel .service) (holds 5),
-            (
-              users-piece (s .channel .users) (holds 6),
-              (
-                byte-piece isCarrier (unfold isCarrier among in refl) (s .channel .carrier) (holds 7),
-                (
-                  day-piece (s .site .started),
-                  (
-                    name-piece (s .site .name) (holds 9),
-                    (
-                      country-piece (s .site .country) (holds 10),
-                      (
-                        position-piece (s .site .position) (holds 11),
-                        (
-                          radius-piece (s .site .radius),
-                          (
-                            height-piece (s .site .height),
-                            (
-                              emission-piece (s .emission .designation) (holds 14),
-                              (
-                                tenths-piece 3 1 true (s .emission .power),
-                                (
-                                  byte-piece isBasis (unfold isBasis among in refl) (s .emission .basis) (holds 16),
-                                  (
-                                    tenths-piece 3 1 false (s .emission .azimuth),
-                                    (
-                                      tenths-piece 2 1 true (s .emission .elevation),
-                                      (
-                                        polarisation-piece (s .antenna .polarisation) (holds 19),
-                                        (
-                                          tenths-piece 2 1 false (s .antenna .gain),
-                                          (
-                                            ground-piece (s .antenna .ground),
-                                            (
-                                              antenna-piece (s .antenna .horizontal) (holds 22),
-                                              (
-                                                antenna-piece (s .antenna .vertical) (holds 23),
-                                                (
-                                                  amount-piece (s .filing .receive),
-                                                  (
-                                                    unit-piece (s .filing .receive),
-                                                    (
-                                                      remarks-piece (s .filing .remarks) (holds 26),
-                                                      (
-                                                        byte-piece isStatus (unfold isStatus among in refl) (s .filing .status) (holds 27),
-                                                        (
-                                                          day-piece (s .filing .requested),
-                                                          (
-                                                            day-piece (s .filing .coordinated),
-                                                            (reference-piece (s .filing .reference) (holds 30), tt),
-                                                          ),
-                                                        ),
-                                                      ),
-                                                    ),
-                                                  ),
-                                                ),
-                                              ),
-                                            ),
-                                          ),
-                                        ),
-                                      ),
-                                    ),
-                                  ),
-                                ),
-                              ),
-                            ),
-                          ),
-                        ),
-                      ),
-                    ),
-                  ),
-                ),
-              ),
-            ),
-          ),
-        ),
-      ),
-    ),
-  )
+  unfolding stationPieces typedRules among isName isText isNarrow every
+  pieces-listed = table-pieces stationTable (valuesOf s) refl refl h
 
   -- the fields that go out hold no mark,
   out-plain : AllPlain (trimmedFields stationSides (stationPieces s))
@@ -146,7 +55,7 @@ module _ (s : Station) (h : All (typedRules s)) where
 
   -- are found in the line again,
   fields-found : lineFields (lineOf s) ≡ trimmedFields stationSides (stationPieces s)
-  unfolding lineFields lineOf stationPieces channelPieces sitePieces emissionPieces antennaPieces filingPieces
+  unfolding lineFields lineOf stationPieces
   fields-found = split-joined (trimmedFields stationSides (stationPieces s)) out-plain
 
   -- and are padded to the record again
@@ -156,7 +65,7 @@ module _ (s : Station) (h : All (typedRules s)) where
 
   -- the line has its marks
   line-marks : isLine (lineOf s) ≡ true
-  unfolding lineOf stationPieces channelPieces sitePieces emissionPieces antennaPieces filingPieces
+  unfolding lineOf stationPieces
   line-marks = marked (trimmedFields stationSides (stationPieces s)) out-plain refl
 
   -- and no field that is too long

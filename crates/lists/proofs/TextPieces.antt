@@ -8,68 +8,54 @@ use native.Mathlib.Omega.{arith}
 use lib.Dec.{eqb}
 use lib.ListN.{length, getD, take, drop, replicate, take-append-drop, drop-of-length-le, length-drop}
 use lib.Seq.{drop-cons, drop-drop, length-take-le}
-use borrow.Author.Tests.{eqb-true}
-use Rattle.columns.specs.Sets.{is, among, between, isDigit, isUpper, isNarrow, isName, isText, isHex}
-use Rattle.columns.specs.Texts.{head, skip, blank, trimmed, every, exactly, oneOf, sized, howMany}
+use borrow.Author.Tests.{eqb-true, not-true}
+use Rattle.columns.specs.Sets.{is, among, between, isDigit, isText, isHex}
+use Rattle.columns.specs.Texts.{head, skip, blank, trimmed, every, each, oneOf, sized, howMany}
 use Rattle.columns.proofs.TextLaws.{and-split, and-both}
 use Rattle.columns.proofs.NumberLaws.{digit-range}
 use Rattle.columns.proofs.ColumnLaws.{either}
 use Rattle.fields.specs.Emission.{bandwidthGood, isModulation, isSignal, isInformation, isDetail, isMultiplex, detailGood, emissionGood}
 use Rattle.fields.specs.Remarks.{cellGood, installationGood, remarksGood}
-use Rattle.fields.specs.Codes.{classGood, serviceGood, isUser, usersGood, nameGood, countryGood, polarisationGood, antennaGood, referenceGood}
-use Rattle.fields.proofs.FieldColumns.{class-column, service-column, polarisation-column, users-column, name-column, antenna-column, reference-column, country-column, emission-column, remarks-column}
+use Rattle.fields.specs.Kinds.{emission}
+use Rattle.fields.proofs.KindLaws.{text-wide, remarks-wide}
 use Rattle.fields.proofs.TrimLaws.{filled-cons}
 use Rattle.lists.specs.Fields.{missing}
 use Rattle.lists.specs.declared.Side.the-variants as side
 use Rattle.lists.proofs.PadLaws.{skip-pads, trim-pads, blank-spaces}
 use Rattle.lists.proofs.LineLaws.{plain}
-use Rattle.lists.proofs.PieceLaws.{Piece, solid, not-this, plain-byte, solid-byte, every-more, every-append, spaces-plain, solid-plain}
-use Rattle.lists.proofs.FieldPieces.{opens, open-piece, one-passes, each-opens}
+use Rattle.lists.proofs.PieceLaws.{Piece, solid, refusesMarks, refusesSpaces, not-this, plain-byte, solid-byte, every-more, every-append, spaces-plain, solid-plain}
+use Rattle.lists.proofs.FieldPieces.{opens, open-piece, one-passes, allRefuse, each-opens}
 
--- 6A, 6B, 9D: one of some literals
-pub class-piece : (p : List ℕ) → classGood p ≡ true → Piece side.Right 2 p
-class-piece p e = open-piece 2 p (class-column .wide p e) (unfold classGood every in one-passes opens ("FB" ∷ "FL" ∷ "ML" ∷ []) p refl e)
+-- ---- one of some literals, a test for each place, and words of a set
 
-pub service-piece : (p : List ℕ) → serviceGood p ≡ true → Piece side.Right 2 p
-service-piece p e = open-piece 2 p (service-column .wide p e) (unfold serviceGood every in one-passes opens ("CO" ∷ "CP" ∷ "CR" ∷ "CV" ∷ "OT" ∷ []) p refl e)
+-- the first place takes no space
+abbrev pub opening : List (ℕ → Bool) → Bool
+opening [] = true
+opening (test ∷ tests) = not (test 32)
 
-pub polarisation-piece : (p : List ℕ) → polarisationGood p ≡ true → Piece side.Right 2 p
-polarisation-piece p e =
-    open-piece 2 p (polarisation-column .wide p e) (unfold polarisationGood every in one-passes opens ("H " ∷ "V " ∷ "SR" ∷ "SL" ∷ "CR" ∷ "CL" ∷ "D " ∷ "M " ∷ []) p refl e)
+pub places-open : (tests : List (ℕ → Bool)) (p : List ℕ) → (allRefuse tests && opening tests) ≡ true → each tests p ≡ true → opens p ≡ true
+unfolding each every
+places-open [] [] r e = refl
+places-open [] (c ∷ p) r e = absurd (false≢true e)
+places-open (test ∷ tests) p r e = let h = and-split (allRefuse (test ∷ tests)) (not (test 32)) r in each-opens test tests p (h .0) (h .1) e
 
--- 6Z, 4A, 9XH, 9XV, 13X: a test for each place
-pub users-piece : (p : List ℕ) → usersGood p ≡ true → Piece side.Right 2 p
-users-piece p e = open-piece 2 p (users-column .wide p e) (unfold usersGood in each-opens isUser ((λ c. isUser c || is " " c) ∷ []) p refl refl e)
+module _ (set : ℕ → Bool) (r : refusesSpaces set ≡ true) where
+  no-space : not (set 32) ≡ true
+  no-space = and-split (refusesMarks set) (not (set 32)) r .1
 
-pub name-piece : (p : List ℕ) → nameGood p ≡ true → Piece side.Right 20 p
-name-piece p e =
-    open-piece 20 p (name-column .wide p e) (unfold nameGood isName isText among in each-opens isDigit (replicate 3 isDigit ++ (exactly "_" ++ replicate 15 isName)) p refl refl e)
+  word-head : (p : List ℕ) → (not (blank p) && every set (trimmed p)) ≡ true → not (is " " (head p)) ≡ true
+  unfolding skip
+  word-head [] e = absurd (false≢true e)
+  word-head (c ∷ p) e =
+      let h = and-split (set c) (every set (trimmed p)) (sym (filled-cons set (not-true (set 32) no-space) c p) ∙ e) in
+      rw (not-this set 32 c no-space (h .0))
 
-pub antenna-piece : (p : List ℕ) → antennaGood p ≡ true → Piece side.Right 7 p
-antenna-piece p e =
-    open-piece 7 p (antenna-column .wide p e) (unfold antennaGood in each-opens isDigit (replicate 2 isDigit ++ (replicate 2 isUpper ++ replicate 2 isDigit)) p refl refl e)
-
-pub reference-piece : (p : List ℕ) → referenceGood p ≡ true → Piece side.Right 15 p
-reference-piece p e =
-    open-piece 15 p (reference-column .wide p e)
-    (unfold referenceGood isNarrow in each-opens (is "A") (is "U" ∷ is "T" ∷ (replicate 4 isDigit ++ (replicate 5 isNarrow ++ replicate 3 isDigit))) p refl refl e)
-
--- ---- 4B
-
-country-head : (p : List ℕ) → (not (blank p) && every isUpper (trimmed p)) ≡ true → not (is " " (head p)) ≡ true
-unfolding skip
-country-head [] e = absurd (false≢true e)
-country-head (c ∷ p) e =
-    let h = and-split (isUpper c) (every isUpper (trimmed p)) (sym (filled-cons isUpper refl c p) ∙ e) in
-    rw (not-this isUpper 32 c refl (h .0))
-
-pub country-piece : (p : List ℕ) → countryGood p ≡ true → Piece side.Right 3 p
-country-piece p e =
-    let h : (not (blank p) && every isUpper (trimmed p)) ≡ true = unfold countryGood in and-split (sized 3 p) (not (blank p) && every isUpper (trimmed p)) e .1 in
-    let g = and-split (not (blank p)) (every isUpper (trimmed p)) h in
-    let front : every plain (trimmed p) ≡ true = every-more isUpper plain (plain-byte isUpper refl) (trimmed p) (g .1) in
-    let all : every plain (trimmed p ++ missing (length p) (trimmed p)) ≡ true = every-append plain (trimmed p) (missing (length p) (trimmed p)) front (spaces-plain (length p - length (trimmed p))) in
-    open-piece 3 p (country-column .wide p e) (and-both (every plain p) (not (is " " (head p))) (rw (trim-pads p) at all) (country-head p h))
+  pub word-opens : (p : List ℕ) → (not (blank p) && every set (trimmed p)) ≡ true → opens p ≡ true
+  word-opens p h =
+      let g = and-split (not (blank p)) (every set (trimmed p)) h in
+      let front : every plain (trimmed p) ≡ true = every-more set plain (plain-byte set (and-split (refusesMarks set) (not (set 32)) r .0)) (trimmed p) (g .1) in
+      let all : every plain (trimmed p ++ missing (length p) (trimmed p)) ≡ true = every-append plain (trimmed p) (missing (length p) (trimmed p)) front (spaces-plain (length p - length (trimmed p))) in
+      and-both (every plain p) (not (is " " (head p))) (rw (trim-pads p) at all) (word-head p h)
 
 -- ---- 7A and 13Z, part by part
 
@@ -160,7 +146,7 @@ emission-parts p e = and-split (sized 9 p) _ e .1
 
 pub emission-piece : (p : List ℕ) → emissionGood p ≡ true → Piece side.Right 9 p
 emission-piece p e =
-    let w : length p ≡ 9 = emission-column .wide p e in
+    let w : length p ≡ 9 = text-wide emission 9 refl p e in
     let b = bandwidthGood (take 4 p) in
     let m = isModulation (getD p 4 0) in
     let s = isSignal (getD p 5 0) in
@@ -222,7 +208,7 @@ remarks-parts p e = and-split (sized 50 p) _ e .1
 
 pub remarks-piece : (p : List ℕ) → remarksGood p ≡ true → Piece side.Kept 50 p
 remarks-piece p e =
-    let w : length p ≡ 50 = remarks-column .wide p e in
+    let w : length p ≡ 50 = remarks-wide p e in
     let filled = between "2" "5" (head p) && cellGood (take 9 (drop 1 p)) && installationGood (take 3 (drop 10 p)) && every isText (drop 13 p) in
     let h : (blank p || filled) ≡ true = remarks-parts p e in
     record { wide = w; stands = tt; unmarked = either (blank p) filled h (blank-plain p) (filled-plain p w) }

@@ -5,43 +5,38 @@ use mathlib.Core.List.{List, [], _∷_, _++_}
 use lib.ListN.{length, replicate}
 use lib.Dec.{leb}
 use Rattle.columns.specs.Texts.{skip, trimmed}
+use Rattle.fields.specs.Kinds.{Kind, amount, unit, byte, choice, text, remarks, date, dateOrBlank, tenths, kilometres, metres, metresOrBlank, position, whole, wholeOrBlank}
+use Rattle.fields.specs.Rows.{Row}
+use Rattle.fields.specs.Table.{stationTable}
 use Rattle.lists.specs.declared.Side.{Side}
 use Rattle.lists.specs.declared.Side.the-variants as side
 
 -- Whole numbers and decimals are padded on the left, all others on the right; only 13Z goes out untrimmed.
+abbrev pub sideOf : Kind → Side
+sideOf amount = side.Left
+sideOf unit = side.Right
+sideOf (byte first set) = side.Right
+sideOf (choice xs) = side.Right
+sideOf (text rule) = side.Right
+sideOf remarks = side.Kept
+sideOf date = side.Right
+sideOf dateOrBlank = side.Right
+sideOf (tenths a sign range) = side.Left
+sideOf kilometres = side.Left
+sideOf metres = side.Left
+sideOf metresOrBlank = side.Left
+sideOf position = side.Right
+sideOf whole = side.Left
+sideOf wholeOrBlank = side.Left
+
+-- The sides of a table's fields,
+abbrev pub sidesOf : List Row → List Side
+sidesOf [] = []
+sidesOf (r ∷ rs) = sideOf (r .kind) ∷ sidesOf rs
+
+-- and of a station's.
 abbrev pub stationSides : List Side
-stationSides =
-    side.Left ∷  -- 1A
-    side.Right ∷  -- the unit of 1A
-    side.Right ∷  -- 1Z
-    side.Right ∷  -- 6A
-    side.Right ∷  -- 6B
-    side.Right ∷  -- 6Z
-    side.Right ∷  -- 10Z
-    side.Right ∷  -- 2C
-    side.Right ∷  -- 4A
-    side.Right ∷  -- 4B
-    side.Right ∷  -- 4C
-    side.Left ∷  -- 4D
-    side.Left ∷  -- 4Z
-    side.Right ∷  -- 7A
-    side.Left ∷  -- 8B1
-    side.Right ∷  -- 8B2
-    side.Left ∷  -- 9A
-    side.Left ∷  -- 9B
-    side.Right ∷  -- 9D
-    side.Left ∷  -- 9G
-    side.Left ∷  -- 9Y
-    side.Right ∷  -- 9XH
-    side.Right ∷  -- 9XV
-    side.Left ∷  -- 1Y
-    side.Right ∷  -- the unit of 1Y
-    side.Kept ∷  -- 13Z
-    side.Right ∷  -- 13Y
-    side.Right ∷  -- 2W
-    side.Right ∷  -- 2Z
-    side.Right ∷  -- 13X
-    []
+stationSides = sidesOf stationTable
 
 -- A field as it goes out: leading and trailing spaces off, unless it is kept.
 unfoldable pub trimmedField : Side → List ℕ → List ℕ

@@ -40,9 +40,9 @@ ghost use Rattle.columns.specs.Texts.{blank};
 ghost use Rattle.fields.specs.Positions.{positionGood};
 ghost use Rattle.filing.specs.Rules.{All, firstBroken};
 ghost use Rattle.station.specs.Places.{fieldsOf};
-ghost use Rattle.station.specs.Between.{firstBetween, lastBetween};
+ghost use Rattle.station.specs.Groups.{firstBetween, lastBetween, channelFields, siteFields, emissionFields, antennaFields, filingFields};
 ghost use Rattle.station.specs.Codes.{valueOf, stationCode};
-ghost use Rattle.station.specs.Rules.{channelFields, siteFields, emissionFields, antennaFields, filingFields, fieldRules};
+ghost use Rattle.station.specs.Rules.{fieldRules};
 ghost use Rattle.reading.specs.Promises.{StationChecked};
 
 // A date or blank.

@@ -1,46 +1,60 @@
--- Document 01, "Then across fields": the rules between fields, codes 31 to 39. They are stated once, on typed values, and count only where rules 1 to 30 hold.
+-- Document 01, "Then across fields": the rules between fields, codes 31 to 39, as a second table. They are stated once, on typed values, and count only
+-- where rules 1 to 30 hold. (Rules 2 and 25, which ask a unit of its amount, stand in the first table as its kind `unit`.)
 use Prim.Native.Nat.{ℕ}
 use mathlib.Core.Bool.{Bool, not, _&&_}
-use mathlib.Core.List.{List, [], _∷_, _++_}
+use mathlib.Core.List.{List, [], _∷_}
 use lib.Dec.{eqb}
 use Rattle.columns.specs.Sets.{is}
 use Rattle.columns.specs.Texts.{bytes, head, trimmed, same, endsIn}
 use Rattle.fields.specs.Frequencies.{hasFrequency}
 use Rattle.fields.specs.Tenths.{hasTenths}
 use Rattle.fields.specs.Distances.{hasHeight}
+use Rattle.fields.specs.Table.{meantAt}
+use Rattle.station.specs.Members.{valuesOf, valueAt}
 use Rattle.station.specs.declared.Station.{Station}
 
+-- What is said of a station.
+abbrev pub Fact : Type 0
+Fact = Station → Bool
+
+-- The value of field number k passes a test.
+abbrev pub on : (k : ℕ) → ((meantAt k) .Value → Bool) → Fact
+on k test s = test (valueAt (valuesOf s) k)
+
+abbrev pub isnt : Fact → Fact
+isnt fact s = not (fact s)
+
 -- 6A begins with M.
-unfoldable pub mobile : Station → Bool
-mobile s = is "M" (head (s .channel .class))
+abbrev pub mobile : Fact
+mobile = on 4 (λ p. is "M" (head p))
 
 -- The antenna type of no direction.
 unfoldable pub roundAntenna : List ℕ → Bool
 roundAntenna p = same (bytes "000ND00") p
 
--- The two never stand together.
+-- Each row has two facts that never stand together.
+abbrev pub betweenTable : List (Fact × Fact)
+betweenTable =
+    (isnt (on 1 hasFrequency), isnt (on 24 hasFrequency)) ∷  -- 31 neither 1A nor 1Y filled
+    (isnt (on 1 hasFrequency), on 15 hasTenths) ∷  -- 32 1A blank, 8B1 filled
+    (isnt mobile, isnt (on 12 (λ r. eqb (r .0) 0))) ∷  -- 33 6A does not begin with M, 4D not 0
+    (mobile, on 17 hasTenths) ∷  -- 34 6A begins with M, 9A filled
+    (isnt (on 17 hasTenths), isnt (on 22 roundAntenna)) ∷  -- 35 9A blank, 9XH not 000ND00
+    (isnt (on 18 hasTenths), isnt (on 23 roundAntenna)) ∷  -- 36 9B blank, 9XV not 000ND00
+    (mobile, on 13 hasHeight) ∷  -- 37 6A begins with M, 4Z filled
+    (on 24 hasFrequency, isnt (on 20 hasTenths)) ∷  -- 38 1Y filled, 9G blank
+    (on 4 (same (bytes "FL")), isnt (on 9 (λ p. endsIn "_R" (trimmed p)))) ∷  -- 39 6A is FL and the name, trailing spaces off, does not end in _R
+    []
+
+-- The two do not stand together.
 abbrev pub never : Bool → Bool → Bool
 never x y = not (x && y)
 
--- The rules in the order of their codes; each line says what breaks it. Those of frequencies, radius and azimuth,
-unfoldable pub firstBetween : Station → List Bool
-firstBetween s =
-    never (not (hasFrequency (s .channel .transmit))) (not (hasFrequency (s .filing .receive))) ∷  -- 31 neither 1A nor 1Y filled
-    never (not (hasFrequency (s .channel .transmit))) (hasTenths (s .emission .power)) ∷  -- 32 1A blank, 8B1 filled
-    never (not (mobile s)) (not (eqb (s .site .radius .0) 0)) ∷  -- 33 6A does not begin with M, 4D not 0
-    never (mobile s) (hasTenths (s .emission .azimuth)) ∷  -- 34 6A begins with M, 9A filled
-    []
-
--- and those of antennas, height, gain and name.
-unfoldable pub lastBetween : Station → List Bool
-lastBetween s =
-    never (not (hasTenths (s .emission .azimuth))) (not (roundAntenna (s .antenna .horizontal))) ∷  -- 35 9A blank, 9XH not 000ND00
-    never (not (hasTenths (s .emission .elevation))) (not (roundAntenna (s .antenna .vertical))) ∷  -- 36 9B blank, 9XV not 000ND00
-    never (mobile s) (hasHeight (s .site .height)) ∷  -- 37 6A begins with M, 4Z filled
-    never (hasFrequency (s .filing .receive)) (not (hasTenths (s .antenna .gain))) ∷  -- 38 1Y filled, 9G blank
-    never (same (bytes "FL") (s .channel .class)) (not (endsIn "_R" (trimmed (s .site .name)))) ∷  -- 39 6A is FL and the name, trailing spaces off, does not end in _R
-    []
+-- The rules of such a table.
+abbrev pub neverOf : List (Fact × Fact) → Station → List Bool
+neverOf [] s = []
+neverOf (r ∷ rs) s = never (r .0 s) (r .1 s) ∷ neverOf rs s
 
 -- Codes 31 to 39.
 unfoldable pub betweenRules : Station → List Bool
-betweenRules s = firstBetween s ++ lastBetween s
+betweenRules s = neverOf betweenTable s

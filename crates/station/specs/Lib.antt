@@ -1,9 +1,11 @@
+pub mod Members
 pub mod Places
 pub mod Rules
 pub mod Between
 pub mod Values
 pub mod Spelling
 pub mod Codes
+pub mod Groups
 pub mod Setting
 pub mod Calls
 pub mod Promises

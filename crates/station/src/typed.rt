@@ -39,8 +39,9 @@ ghost use mathlib.Core.Path.{_≡_};
 ghost use Rattle.columns.specs.Sets.{is};
 ghost use Rattle.columns.specs.Texts.{bytes, head, trimmed, same, endsIn};
 ghost use Rattle.filing.specs.Rules.{firstBroken};
-ghost use Rattle.station.specs.Rules.{channelRules, siteRules, emissionRules, antennaRules, filingRules, typedRules};
-ghost use Rattle.station.specs.Between.{roundAntenna, firstBetween, lastBetween};
+ghost use Rattle.station.specs.Groups.{channelRules, siteRules, emissionRules, antennaRules, filingRules, firstBetween, lastBetween};
+ghost use Rattle.station.specs.Rules.{typedRules};
+ghost use Rattle.station.specs.Between.{roundAntenna};
 ghost use Rattle.station.specs.Promises.{StationJudged};
 
 // Rules 1 to 7; a typed unit always has its letter.

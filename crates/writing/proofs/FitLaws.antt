@@ -4,7 +4,8 @@ use mathlib.Core.Path.{_≡_}
 use mathlib.Core.List.{_++_}
 use Rattle.filing.specs.Rules.{All}
 use Rattle.filing.proofs.RuleLaws.{all-hold, all-front, all-back}
-use Rattle.station.specs.Rules.{channelRules, siteRules, emissionRules, antennaRules, filingRules, typedRules}
+use Rattle.station.specs.Groups.{channelRules, siteRules, emissionRules, antennaRules, filingRules}
+use Rattle.station.specs.Rules.{typedRules}
 use Rattle.station.specs.Between.{betweenRules}
 use Rattle.station.specs.Codes.{typedCode}
 use Rattle.station.specs.declared.Station.{Station}
@@ -15,9 +16,12 @@ module _ (s : Station) (e : typedCode s ≡ 0) where
   unfolding typedCode
   fields-fit = all-front (typedRules s) (betweenRules s) (all-hold 0 (typedRules s ++ betweenRules s) e)
 
+  in-groups : All (channelRules (s .channel) ++ (siteRules (s .site) ++ (emissionRules (s .emission) ++ (antennaRules (s .antenna) ++ filingRules (s .filing)))))
+  unfolding typedRules channelRules siteRules emissionRules antennaRules filingRules
+  in-groups = fields-fit
+
   from-site : All (siteRules (s .site) ++ (emissionRules (s .emission) ++ (antennaRules (s .antenna) ++ filingRules (s .filing))))
-  unfolding typedRules
-  from-site = all-back (channelRules (s .channel)) _ fields-fit
+  from-site = all-back (channelRules (s .channel)) _ in-groups
 
   from-emission : All (emissionRules (s .emission) ++ (antennaRules (s .antenna) ++ filingRules (s .filing)))
   from-emission = all-back (siteRules (s .site)) _ from-site
@@ -26,8 +30,7 @@ module _ (s : Station) (e : typedCode s ≡ 0) where
   from-antenna = all-back (emissionRules (s .emission)) _ from-emission
 
   pub channel-fits : All (channelRules (s .channel))
-  unfolding typedRules
-  channel-fits = all-front (channelRules (s .channel)) _ fields-fit
+  channel-fits = all-front (channelRules (s .channel)) _ in-groups
 
   pub site-fits : All (siteRules (s .site))
   site-fits = all-front (siteRules (s .site)) _ from-site

@@ -19,8 +19,7 @@ ghost use mathlib.Core.Path.{_≡_};
 ghost use lib.ListN.{length, drop};
 ghost use Rattle.filing.specs.Fields.{joined};
 ghost use Rattle.filing.specs.Rules.{All};
-ghost use Rattle.station.specs.Rules.{channelRules, siteRules, emissionRules, antennaRules, filingRules};
-ghost use Rattle.station.specs.Spelling.{channelPieces, sitePieces, emissionPieces, antennaPieces, filingPieces};
+ghost use Rattle.station.specs.Groups.{channelRules, siteRules, emissionRules, antennaRules, filingRules, channelPieces, sitePieces, emissionPieces, antennaPieces, filingPieces};
 
 // 6A, 6B, 6Z and 10Z, columns 14 to 20: what it is used for.
 fn put_use(g: Channel, s: &mut [u8])

@@ -16,11 +16,12 @@ use fields::tenths::write_tenths;
 ghost use mathlib.Core.Path.{_≡_};
 ghost use mathlib.Core.Bool.{true};
 ghost use lib.ListN.{length};
-ghost use Rattle.columns.specs.Decimals.{digitsBefore, digitsAfter, maySign, formatWidth};
+ghost use Rattle.columns.specs.Formats.{digitsBefore, digitsAfter, maySign, formatWidth};
 ghost use Rattle.fields.specs.Distances.{radiusFits, spellRadius, groundFits, spellGround, heightFits, spellHeight};
 ghost use Rattle.fields.specs.Frequencies.{frequencyFits, spellAmount, spellUnit};
 ghost use Rattle.fields.specs.Positions.{positionFits, spellPosition};
-ghost use Rattle.fields.specs.Tenths.{tenthsFit, rangeOf, spellTenths};
+ghost use Rattle.fields.specs.Tenths.{tenthsFit, spellTenths};
+ghost use Rattle.fields.specs.Table.{rangeOf};
 
 // A frequency without its unit, or blank: 1A or 1Y.
 pub(crate) fn put_amount(s: &mut [u8], v: Frequency)

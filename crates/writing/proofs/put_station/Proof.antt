@@ -1,7 +1,8 @@
 -- `writing::put_station` meets its contract: each group is written after the one before it. Assumes nothing.
 use mathlib.Core.Path.{_≡_}
 use lib.ListN.{length, take, drop}
-use Rattle.station.specs.Spelling.{channelPieces, sitePieces, emissionPieces, antennaPieces, filingPieces, stationPieces, spellStation}
+use Rattle.station.specs.Groups.{channelPieces, sitePieces, emissionPieces, antennaPieces, filingPieces}
+use Rattle.station.specs.Spelling.{stationPieces, spellStation}
 use Rattle.writing.proofs.FitLaws.{channel-fits, site-fits, emission-fits, antenna-fits, filing-fits}
 use Rattle.filing.proofs.WriteLaws.{nothing-yet, then-some, all-written}
 use borrow.Author.Needs.{needs}

@@ -1,6 +1,6 @@
 -- `columns::decimals::decimal_width` meets its contract, format by format. Assumes nothing.
 use mathlib.Core.Path.{sym, ap}
-use Rattle.columns.specs.Decimals.{formatWidth}
+use Rattle.columns.specs.Formats.{formatWidth}
 use borrow.Author.Needs.{needs}
 use Rattle.columns.proofs.decimals.decimal_width.Statement.{statement}
 use Rattle.columns.proofs.decimals.decimal_width.Tie as tie

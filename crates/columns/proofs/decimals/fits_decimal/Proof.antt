@@ -7,7 +7,7 @@ use lib.IntN.{natAbs}
 use mir.Facts.{toZ-ofZ}
 use borrow.Author.Tests.{not-true, not-false}
 use Rattle.columns.specs.Numbers.{wholeFits}
-use Rattle.columns.specs.Decimals.{digitsBefore, digitsAfter}
+use Rattle.columns.specs.Formats.{digitsBefore, digitsAfter}
 use Rattle.columns.proofs.DecimalLaws.{few-digits}
 use native.Mathlib.Omega.{arith}
 use borrow.Author.Needs.{needs}

@@ -1,5 +1,6 @@
 -- `columns::decimals::read_decimal` meets its contract, by the law of numbers with a sign. Assumes nothing.
-use Rattle.columns.specs.Decimals.{magnitudeOf, decimalOf, digitsBefore, digitsAfter, maySign}
+use Rattle.columns.specs.Decimals.{magnitudeOf, decimalOf}
+use Rattle.columns.specs.Formats.{digitsBefore, digitsAfter, maySign}
 use Rattle.columns.proofs.TextLaws.{from-on}
 use Rattle.columns.proofs.NumberLaws.{number-blank, number-read}
 use Rattle.columns.proofs.DecimalLaws.{few-digits, magnitude-small}

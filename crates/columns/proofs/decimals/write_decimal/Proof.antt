@@ -3,7 +3,7 @@ use mathlib.Core.Path.{_≡_, sym, ap, _∙_}
 use mathlib.Core.Bool.{Bool, true, false, _&&_, and-false}
 use mir.Facts.{toZ-ofZ}
 use borrow.Author.Tests.{eq-eqb, ne-eqb, not-true, not-false}
-use Rattle.columns.specs.Decimals.{formatFits, formatWidth}
+use Rattle.columns.specs.Formats.{formatFits, formatWidth}
 use Rattle.columns.specs.Texts.{sized}
 use denote.Ref.{now}
 use Rattle.columns.proofs.TextLaws.{kept, wrote, and-both}

@@ -6,7 +6,7 @@ use mathlib.Core.List.{List, _++_}
 use lib.ListN.{length, take, drop, replicate}
 use Rattle.columns.specs.Sets.{isDigit, isUpper}
 use Rattle.columns.specs.Texts.{every}
-use Rattle.fields.specs.Codes.{antennaGood}
+use Rattle.fields.specs.Table.{fitsAt}
 use Rattle.fields.proofs.AnswerLaws.{passed, failed}
 use Rattle.fields.proofs.PlaceLaws.{not-each, each-run, each-rest}
 use native.Mathlib.Omega.{arith}
@@ -15,12 +15,10 @@ use Rattle.fields.proofs.codes.is_antenna.Statement.{statement}
 use Rattle.fields.proofs.codes.is_antenna.Tie as tie
 
 -- the type of an antenna in its three parts
-parts : (s : List ℕ) → length s ≡ 7 → antennaGood s ≡ (every isDigit (take 3 s) && (every isUpper (take 2 (drop 3 s)) && every isDigit (take 2 (drop 5 s))))
-unfolding antennaGood
+parts : (s : List ℕ) → length s ≡ 7 → fitsAt 22 s ≡ (every isDigit (take 3 s) && (every isUpper (take 2 (drop 3 s)) && every isDigit (take 2 (drop 5 s))))
 parts s h = rw (each-run s 0 3 isDigit (replicate 2 isUpper ++ replicate 2 isDigit) (omega arith), each-run s 3 2 isUpper (replicate 2 isDigit) (omega arith), each-rest s 5 2 isDigit h)
 
 returns : tie.Need-returns
-unfolding antennaGood
 returns c = sym (not-each _ _ (c .if1 .taken))
 
 sub-all-in : tie.Need-sub-all-in

@@ -2,20 +2,16 @@
 use mathlib.Core.List.{[]}
 use native.Mathlib.Omega.{arith}
 use Rattle.fields.proofs.LetterLaws.{letter-run}
-use Rattle.fields.specs.Codes.{isCarrier}
 use Rattle.fields.proofs.codes.is_carrier.Statement.{statement}
 use Rattle.fields.proofs.codes.is_carrier.Tie as tie
 
 returns : tie.Need-returns
-unfolding isCarrier
 returns c = letter-run _ _ [] 48 50 tt (omega arith) (omega arith) (λ o. o)
 
 returns-2 : tie.Need-returns-2
-unfolding isCarrier
 returns-2 c = letter-run _ _ [] 0 48 tt (omega arith) (omega arith) (λ o. o)
 
 returns-3 : tie.Need-returns-3
-unfolding isCarrier
 returns-3 c = letter-run _ _ [] 50 256 tt (omega arith) (omega arith) (λ o. o)
 
 pub is-carrier-spec : {M : Type 1} → statement M

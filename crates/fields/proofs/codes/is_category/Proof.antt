@@ -3,21 +3,18 @@ use mathlib.Core.Bool.{true, false}
 use mathlib.Core.List.{[]}
 use native.Mathlib.Omega.{arith}
 use Rattle.columns.proofs.SetLaws.{decided}
-use Rattle.fields.specs.Codes.{isCategory}
+use Rattle.fields.specs.Table.{fitsAt}
 use Rattle.fields.proofs.codes.is_category.Statement.{statement}
 use Rattle.fields.proofs.codes.is_category.Tie as tie
 
 returns : tie.Need-returns
-unfolding isCategory
-returns c = decided isCategory true [] 49 57 tt (c .before .before .args .c) (omega arith) (omega arith) (λ o. o)
+returns c = decided (fitsAt 3) true [] 49 57 tt (c .before .before .args .c) (omega arith) (omega arith) (λ o. o)
 
 returns-2 : tie.Need-returns-2
-unfolding isCategory
-returns-2 c = decided isCategory false [] 0 49 tt (c .before .args .c) (omega arith) (omega arith) (λ o. o)
+returns-2 c = decided (fitsAt 3) false [] 0 49 tt (c .before .args .c) (omega arith) (omega arith) (λ o. o)
 
 returns-3 : tie.Need-returns-3
-unfolding isCategory
-returns-3 c = decided isCategory false [] 57 256 tt (c .before .before .args .c) (omega arith) (omega arith) (λ o. o)
+returns-3 c = decided (fitsAt 3) false [] 57 256 tt (c .before .before .args .c) (omega arith) (omega arith) (λ o. o)
 
 pub is-category-spec : {M : Type 1} → statement M
 is-category-spec = tie.close (tie.spec returns returns-2 returns-3)

@@ -1,5 +1,4 @@
 -- `fields::codes::is_class` meets its contract: each return rewrites with the choices that were tried before it. Assumes nothing.
-use Rattle.fields.specs.Codes.{classGood}
 use Rattle.fields.proofs.AnswerLaws.{told}
 use Rattle.fields.proofs.ChoiceLaws.{oneOf-two, oneOf-one}
 use borrow.Author.Needs.{needs}
@@ -16,7 +15,6 @@ is-either-requires : tie.Need-is-either-requires
 is-either-requires c κs = search needs
 
 returns : tie.Need-returns
-unfolding classGood
 returns c = rw (oneOf-two, told (c .before .is-either .ensures) (c .if1 .taken))
 
 slice-aggregate-equal : tie.Need-slice-aggregate-equal
@@ -26,7 +24,6 @@ equal-requires : tie.Need-equal-requires
 equal-requires c κs = search needs
 
 returns-2 : tie.Need-returns-2
-unfolding classGood
 returns-2 c =
     let either = c .before .before in
     rw (oneOf-two, told (either .before .is-either .ensures) (either .if1 .left), oneOf-one) (c .equal .ensures)

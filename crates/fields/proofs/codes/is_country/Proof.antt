@@ -6,7 +6,7 @@ use mathlib.Core.List.{List, [], _∷_}
 use lib.ListN.{length, getD}
 use borrow.Author.Tests.{eq-eqb, ne-eqb}
 use Rattle.columns.specs.Sets.{is, isUpper}
-use Rattle.fields.specs.Codes.{countryGood}
+use Rattle.fields.specs.Table.{fitsAt}
 use Rattle.fields.proofs.AnswerLaws.{passed, failed}
 use Rattle.fields.proofs.TrimLaws.{blank-one, trimmed-cons, trimmed-one, filled-cons}
 use native.Mathlib.Omega.{arith}
@@ -15,8 +15,7 @@ use Rattle.fields.proofs.codes.is_country.Statement.{statement}
 use Rattle.fields.proofs.codes.is_country.Tie as tie
 
 -- the three places, one after the other
-parts : (s : List ℕ) → length s ≡ 3 → countryGood s ≡ (isUpper (getD s 0 0) && cond (is " " (getD s 1 0)) (is " " (getD s 2 0)) (isUpper (getD s 1 0) && cond (is " " (getD s 2 0)) true (isUpper (getD s 2 0))))
-unfolding countryGood
+parts : (s : List ℕ) → length s ≡ 3 → fitsAt 10 s ≡ (isUpper (getD s 0 0) && cond (is " " (getD s 1 0)) (is " " (getD s 2 0)) (isUpper (getD s 1 0) && cond (is " " (getD s 2 0)) true (isUpper (getD s 2 0))))
 parts [] h = absurd (omega arith)
 parts (x ∷ []) h = absurd (omega arith)
 parts (x ∷ y ∷ []) h = absurd (omega arith)
@@ -24,7 +23,6 @@ parts (x ∷ y ∷ z ∷ []) h = rw (filled-cons isUpper refl x (y ∷ z ∷ [])
 parts (x ∷ y ∷ z ∷ w ∷ s) h = absurd (omega arith)
 
 returns : tie.Need-returns
-unfolding countryGood
 returns c = rw (ne-eqb _ _ (c .if1 .taken))
 
 shared-slice-read-is-upper : tie.Need-shared-slice-read-is-upper

@@ -1,6 +1,5 @@
 -- `fields::codes::is_polarisation` meets its contract: each return rewrites with the choices that were tried before it. Assumes nothing.
 use mathlib.Core.Bool.{or-false}
-use Rattle.fields.specs.Codes.{polarisationGood}
 use Rattle.fields.proofs.AnswerLaws.{told}
 use Rattle.fields.proofs.ChoiceLaws.{oneOf-four, oneOf-none}
 use borrow.Author.Needs.{needs}
@@ -23,7 +22,6 @@ is-any-requires : tie.Need-is-any-requires
 is-any-requires c κs = search needs
 
 returns : tie.Need-returns
-unfolding polarisationGood
 returns c = rw (oneOf-four, told (c .before .is-any .ensures) (c .if1 .taken))
 
 slice-aggregate-is-any-5 : tie.Need-slice-aggregate-is-any-5
@@ -42,7 +40,6 @@ is-any-requires-2 : tie.Need-is-any-requires-2
 is-any-requires-2 c κs = search needs
 
 returns-2 : tie.Need-returns-2
-unfolding polarisationGood
 returns-2 c =
     let others = c .before .before .before .before .before in
     rw (oneOf-four, told (others .before .is-any .ensures) (others .if1 .left), oneOf-four, oneOf-none, or-false) (c .is-any2 .ensures)

@@ -6,7 +6,7 @@ use mathlib.Core.List.{List, _++_}
 use lib.ListN.{length, take, drop, replicate}
 use Rattle.columns.specs.Sets.{isDigit, isNarrow}
 use Rattle.columns.specs.Texts.{bytes, every, same}
-use Rattle.fields.specs.Codes.{referenceGood}
+use Rattle.fields.specs.Table.{fitsAt}
 use Rattle.fields.proofs.AnswerLaws.{passed, failed}
 use Rattle.fields.proofs.PlaceLaws.{not-each, each-word, each-run, each-rest}
 use native.Mathlib.Omega.{arith}
@@ -15,13 +15,11 @@ use Rattle.fields.proofs.codes.is_reference.Statement.{statement}
 use Rattle.fields.proofs.codes.is_reference.Tie as tie
 
 -- the reference in its four parts
-parts : (s : List ℕ) → length s ≡ 15 → referenceGood s ≡ (same (bytes "AUT") (take 3 s) && (every isDigit (take 4 (drop 3 s)) && (every isNarrow (take 5 (drop 7 s)) && every isDigit (take 3 (drop 12 s)))))
-unfolding referenceGood
+parts : (s : List ℕ) → length s ≡ 15 → fitsAt 30 s ≡ (same (bytes "AUT") (take 3 s) && (every isDigit (take 4 (drop 3 s)) && (every isNarrow (take 5 (drop 7 s)) && every isDigit (take 3 (drop 12 s)))))
 parts s h =
     rw (each-word s 0 "AUT" (replicate 4 isDigit ++ (replicate 5 isNarrow ++ replicate 3 isDigit)), each-run s 3 4 isDigit (replicate 5 isNarrow ++ replicate 3 isDigit) (omega arith), each-run s 7 5 isNarrow (replicate 3 isDigit) (omega arith), each-rest s 12 3 isDigit h)
 
 returns : tie.Need-returns
-unfolding referenceGood
 returns c = sym (not-each _ _ (c .if1 .taken))
 
 slice-aggregate-equal : tie.Need-slice-aggregate-equal

@@ -1,5 +1,4 @@
 -- `fields::codes::is_service` meets its contract: each return rewrites with the choices that were tried before it. Assumes nothing.
-use Rattle.fields.specs.Codes.{serviceGood}
 use Rattle.fields.proofs.AnswerLaws.{told}
 use Rattle.fields.proofs.ChoiceLaws.{oneOf-four, oneOf-one}
 use borrow.Author.Needs.{needs}
@@ -22,7 +21,6 @@ is-any-requires : tie.Need-is-any-requires
 is-any-requires c κs = search needs
 
 returns : tie.Need-returns
-unfolding serviceGood
 returns c = rw (oneOf-four, told (c .before .is-any .ensures) (c .if1 .taken))
 
 slice-aggregate-equal : tie.Need-slice-aggregate-equal
@@ -32,7 +30,6 @@ equal-requires : tie.Need-equal-requires
 equal-requires c κs = search needs
 
 returns-2 : tie.Need-returns-2
-unfolding serviceGood
 returns-2 c =
     let others = c .before .before in
     rw (oneOf-four, told (others .before .is-any .ensures) (others .if1 .left), oneOf-one) (c .equal .ensures)

@@ -7,7 +7,7 @@ use lib.ListN.{length, getD, take, drop, replicate}
 use borrow.Author.Tests.{eq-eqb, ne-eqb}
 use Rattle.columns.specs.Sets.{is, isDigit, isName}
 use Rattle.columns.specs.Texts.{every, exactly}
-use Rattle.fields.specs.Codes.{nameGood}
+use Rattle.fields.specs.Table.{fitsAt}
 use Rattle.fields.proofs.AnswerLaws.{passed, failed}
 use Rattle.fields.proofs.PlaceLaws.{not-each, each-run, each-one, each-rest}
 use native.Mathlib.Omega.{arith}
@@ -16,12 +16,10 @@ use Rattle.fields.proofs.codes.is_station_name.Statement.{statement}
 use Rattle.fields.proofs.codes.is_station_name.Tie as tie
 
 -- the name in its three parts
-parts : (s : List ℕ) → length s ≡ 20 → nameGood s ≡ (every isDigit (take 4 s) && (is "_" (getD s 4 0) && every isName (take 15 (drop 5 s))))
-unfolding nameGood
+parts : (s : List ℕ) → length s ≡ 20 → fitsAt 9 s ≡ (every isDigit (take 4 s) && (is "_" (getD s 4 0) && every isName (take 15 (drop 5 s))))
 parts s h = rw (each-run s 0 4 isDigit (exactly "_" ++ replicate 15 isName) (omega arith), each-one s 4 (is "_") (replicate 15 isName) (omega arith), each-rest s 5 15 isName h)
 
 returns : tie.Need-returns
-unfolding nameGood
 returns c = sym (not-each _ _ (c .if1 .taken))
 
 sub-all-in : tie.Need-sub-all-in

@@ -2,16 +2,13 @@
 use mathlib.Core.List.{[], _∷_}
 use native.Mathlib.Omega.{arith}
 use Rattle.fields.proofs.LetterLaws.{letter-run, letter-key}
-use Rattle.fields.specs.Codes.{isStatus}
 use Rattle.fields.proofs.codes.is_status.Statement.{statement}
 use Rattle.fields.proofs.codes.is_status.Tie as tie
 
 returns : tie.Need-returns
-unfolding isStatus
 returns c = letter-key _ _ (66 ∷ 70 ∷ []) tt (c .match .keys1)
 
 returns-2 : tie.Need-returns-2
-unfolding isStatus
 returns-2 c = letter-run _ _ (66 ∷ 70 ∷ []) 0 256 tt (omega arith) (omega arith) (c .match .rest .1)
 
 pub is-status-spec : {M : Type 1} → statement M

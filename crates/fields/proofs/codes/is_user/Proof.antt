@@ -3,7 +3,7 @@ use mathlib.Core.Bool.{true, false}
 use mathlib.Core.List.{[]}
 use native.Mathlib.Omega.{arith}
 use Rattle.columns.proofs.SetLaws.{decided}
-use Rattle.fields.specs.Codes.{isUser}
+use Rattle.fields.specs.Table.{isUser}
 use Rattle.fields.proofs.codes.is_user.Statement.{statement}
 use Rattle.fields.proofs.codes.is_user.Tie as tie
 

@@ -6,7 +6,7 @@ use mathlib.Core.List.{List, [], _∷_}
 use lib.ListN.{length, getD}
 use borrow.Author.Tests.{ne-eqb}
 use Rattle.columns.specs.Sets.{is}
-use Rattle.fields.specs.Codes.{isUser, usersGood}
+use Rattle.fields.specs.Table.{fitsAt, isUser}
 use Rattle.fields.proofs.AnswerLaws.{passed, failed}
 use Rattle.fields.proofs.PlaceLaws.{not-each, each-one, each-none}
 use native.Mathlib.Omega.{arith}
@@ -15,12 +15,10 @@ use Rattle.fields.proofs.codes.is_users.Statement.{statement}
 use Rattle.fields.proofs.codes.is_users.Tie as tie
 
 -- the two places
-parts : (s : List ℕ) → length s ≡ 2 → usersGood s ≡ (isUser (getD s 0 0) && (isUser (getD s 1 0) || is " " (getD s 1 0)))
-unfolding usersGood
+parts : (s : List ℕ) → length s ≡ 2 → fitsAt 6 s ≡ (isUser (getD s 0 0) && (isUser (getD s 1 0) || is " " (getD s 1 0)))
 parts s h = rw (each-one s 0 isUser ((λ c. isUser c || is " " c) ∷ []) (omega arith), each-one s 1 (λ c. isUser c || is " " c) [] (omega arith), each-none s 2 (omega arith), and-true)
 
 returns : tie.Need-returns
-unfolding usersGood
 returns c = sym (not-each _ _ (c .if1 .taken))
 
 shared-slice-read-is-user : tie.Need-shared-slice-read-is-user

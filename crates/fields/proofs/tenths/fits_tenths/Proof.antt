@@ -1,7 +1,7 @@
 -- `fields::tenths::fits_tenths` meets its contract: a filled value has its digits in their places and is in range. Assumes nothing.
 use mathlib.Core.Path.{_≡_, sym, _∙_}
 use borrow.Author.Tests.{not-true, not-false}
-use Rattle.columns.specs.Decimals.{formatFits}
+use Rattle.columns.specs.Formats.{formatFits}
 use Rattle.fields.specs.Tenths.{tenthsFit}
 use Rattle.columns.proofs.Signs.{in-bits}
 use Rattle.fields.proofs.TenthsLaws.{fit-not, fit-range}

@@ -1,7 +1,8 @@
 -- `fields::tenths::is_tenths` meets its contract: each arm is the answer that the columns say. Assumes nothing.
 use mathlib.Core.Path.{sym, ap, _∙_}
 use Rattle.columns.specs.Numbers.{passes}
-use Rattle.fields.specs.Tenths.{rangeOf, tenthsGood}
+use Rattle.fields.specs.Tenths.{tenthsGood}
+use Rattle.fields.specs.Table.{rangeOf}
 use Rattle.columns.proofs.Signs.{in-bits}
 use borrow.Author.Needs.{needs}
 use Rattle.fields.proofs.tenths.is_tenths.Statement.{statement}

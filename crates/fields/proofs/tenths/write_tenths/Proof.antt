@@ -6,9 +6,10 @@ use lib.ListN.{length, replicate}
 use borrow.Author.Tests.{eq-eqb, ne-eqb, not-true, not-false}
 use denote.Ref.{now}
 use Rattle.columns.specs.Texts.{sized}
-use Rattle.columns.specs.Decimals.{digitsBefore, digitsAfter, maySign, formatWidth}
+use Rattle.columns.specs.Formats.{digitsBefore, digitsAfter, maySign, formatWidth}
 use Rattle.columns.proofs.TextLaws.{kept, wrote, and-both}
-use Rattle.fields.specs.Tenths.{rangeOf, tenthsFit, spellTenths}
+use Rattle.fields.specs.Tenths.{tenthsFit, spellTenths}
+use Rattle.fields.specs.Table.{rangeOf}
 use Rattle.fields.proofs.SignedLaws.{decimal-written}
 use Rattle.fields.proofs.TenthsLaws.{digits-fit}
 use borrow.Author.Needs.{needs}

@@ -1,7 +1,7 @@
 -- `header::writing::put_end` meets its contract: each field is written after the one before it. Assumes nothing.
 use mathlib.Core.Path.{_≡_}
 use lib.ListN.{length}
-use Rattle.header.specs.Values.{spellSerial}
+use Rattle.fields.specs.Serials.{spellSerial}
 use Rattle.header.specs.Spelling.{headerPieces}
 use Rattle.filing.proofs.WriteLaws.{nothing-yet, then-one, then-text, all-written}
 use borrow.Author.Needs.{needs}

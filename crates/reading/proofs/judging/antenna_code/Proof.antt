@@ -2,7 +2,7 @@
 use mathlib.Core.Path.{_≡_, _∙_}
 use denote.Ref.{now}
 use Rattle.station.specs.Places.{fieldsOf}
-use Rattle.station.specs.Rules.{antennaFields}
+use Rattle.station.specs.Groups.{antennaFields}
 use native.Mathlib.Omega.{arith}
 use borrow.Author.Needs.{needs}
 use Rattle.reading.proofs.judging.antenna_code.Statement.{statement}

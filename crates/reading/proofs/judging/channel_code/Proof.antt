@@ -1,10 +1,10 @@
 -- `reading::judging::channel_code` meets its contract: each test of the code is a rule of the group. Assumes nothing.
 use mathlib.Core.Path.{_≡_, _∙_}
 use denote.Ref.{now}
-use Rattle.fields.specs.Codes.{isCategory, isCarrier}
+use Rattle.fields.specs.Table.{fitsAt}
 use Rattle.reading.proofs.PartLaws.{byte-field}
 use Rattle.station.specs.Places.{fieldsOf}
-use Rattle.station.specs.Rules.{channelFields}
+use Rattle.station.specs.Groups.{channelFields}
 use native.Mathlib.Omega.{arith}
 use borrow.Author.Needs.{needs}
 use Rattle.reading.proofs.judging.channel_code.Statement.{statement}
@@ -102,8 +102,8 @@ unfolding channelFields fieldsOf
 returns c =
     let s = c .before .before .before .before .before .before .before .before .before .before .before .before .before .before .before .before .before .before in
     let r = now (s .args .rec) in
-    let b12 = byte-field isCategory r 12 (omega (arith, s .pre)) in
-    let b19 = byte-field isCarrier r 19 (omega (arith, s .pre)) in
+    let b12 = byte-field (fitsAt 3) r 12 (omega (arith, s .pre)) in
+    let b19 = byte-field (fitsAt 7) r 19 (omega (arith, s .pre)) in
     c .first-broken .ensures
     ∙ rw (
       c .before .before .before .before .before .before .before .before .before .before .before .before .before .before .before .is-amount .ensures,

@@ -1,10 +1,10 @@
 -- `reading::judging::emission_code` meets its contract: each test of the code is a rule of the group. Assumes nothing.
 use mathlib.Core.Path.{_≡_, _∙_}
 use denote.Ref.{now}
-use Rattle.fields.specs.Codes.{isBasis}
+use Rattle.fields.specs.Table.{fitsAt}
 use Rattle.reading.proofs.PartLaws.{byte-field}
 use Rattle.station.specs.Places.{fieldsOf}
-use Rattle.station.specs.Rules.{emissionFields}
+use Rattle.station.specs.Groups.{emissionFields}
 use native.Mathlib.Omega.{arith}
 use borrow.Author.Needs.{needs}
 use Rattle.reading.proofs.judging.emission_code.Statement.{statement}
@@ -75,7 +75,7 @@ unfolding emissionFields fieldsOf
 returns c =
     let s = c .before .before .before .before .before .before .before .before .before .before .before .before .before in
     let r = now (s .args .rec) in
-    let b90 = byte-field isBasis r 90 (omega (arith, s .pre)) in
+    let b90 = byte-field (fitsAt 16) r 90 (omega (arith, s .pre)) in
     c .first-broken .ensures
     ∙ rw (
       c .before .before .before .before .before .before .before .before .before .before .is-emission .ensures,

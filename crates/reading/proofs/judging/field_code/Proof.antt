@@ -5,7 +5,8 @@ use denote.Ref.{now}
 use Rattle.filing.specs.Rules.{firstBroken}
 use Rattle.filing.proofs.RuleLaws.{to-next, from-first}
 use Rattle.station.specs.Places.{fieldsOf}
-use Rattle.station.specs.Rules.{channelFields, siteFields, emissionFields, antennaFields, filingFields, fieldRules}
+use Rattle.station.specs.Groups.{channelFields, siteFields, emissionFields, antennaFields, filingFields}
+use Rattle.station.specs.Rules.{fieldRules}
 use borrow.Author.Needs.{needs}
 use Rattle.reading.proofs.judging.field_code.Statement.{statement}
 use Rattle.reading.proofs.judging.field_code.Tie as tie

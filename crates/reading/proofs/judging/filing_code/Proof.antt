@@ -1,10 +1,10 @@
 -- `reading::judging::filing_code` meets its contract: each test of the code is a rule of the group. Assumes nothing.
 use mathlib.Core.Path.{_≡_, _∙_}
 use denote.Ref.{now}
-use Rattle.fields.specs.Codes.{isStatus}
+use Rattle.fields.specs.Table.{fitsAt}
 use Rattle.reading.proofs.PartLaws.{byte-field}
 use Rattle.station.specs.Places.{fieldsOf}
-use Rattle.station.specs.Rules.{filingFields}
+use Rattle.station.specs.Groups.{filingFields}
 use native.Mathlib.Omega.{arith}
 use borrow.Author.Needs.{needs}
 use Rattle.reading.proofs.judging.filing_code.Statement.{statement}
@@ -108,7 +108,7 @@ unfolding filingFields fieldsOf
 returns c =
     let s = c .before .before .before .before .before .before .before .before .before .before .before .before .before .before .before .before .before .before in
     let r = now (s .args .rec) in
-    let b187 = byte-field isStatus r 187 (omega (arith, s .pre)) in
+    let b187 = byte-field (fitsAt 27) r 187 (omega (arith, s .pre)) in
     c .first-broken .ensures
     ∙ rw (
       c .before .before .before .before .before .before .before .before .before .before .before .before .before .before .before .is-amount .ensures,

@@ -5,11 +5,12 @@ use Prim.Native.Nat.{ℕ, _-_}
 use lib.ListN.{getD, take, drop}
 use denote.Ref.{now}
 use Rattle.columns.specs.Texts.{blank}
-use Rattle.fields.specs.Tenths.{anyNumber, upTo}
+use Rattle.fields.specs.Tenths.{anyNumber}
+use Rattle.fields.specs.Table.{meantAt}
 use Rattle.filing.proofs.RuleLaws.{rule}
 use Rattle.station.specs.Places.{fieldsOf}
-use Rattle.station.specs.Rules.{channelFields, siteFields, emissionFields, antennaFields, filingFields, fieldRules}
-use Rattle.station.specs.Between.{mobile, firstBetween}
+use Rattle.station.specs.Groups.{channelFields, siteFields, emissionFields, antennaFields, filingFields, firstBetween}
+use Rattle.station.specs.Rules.{fieldRules}
 use Rattle.station.specs.Values.{stationOf}
 use Rattle.station.specs.Codes.{valueOf}
 use Rattle.reading.proofs.FilledLaws.{frequency-given, tenths-given}
@@ -101,7 +102,7 @@ first-broken-requires : tie.Need-first-broken-requires
 first-broken-requires c κs = search needs
 
 returns : tie.Need-returns
-unfolding firstBetween mobile valueOf stationOf fieldsOf fieldRules channelFields siteFields emissionFields antennaFields filingFields
+unfolding firstBetween valueOf stationOf fieldsOf fieldRules channelFields siteFields emissionFields antennaFields filingFields
 returns c =
     let n4 = c .before .before in
     let n3 = n4 .before .before .before in
@@ -127,7 +128,7 @@ returns c =
       frequency-given (take 11 r) (take 1 (drop 11 r)) (holds 1),
       frequency-given (take 11 (drop 125 r)) (take 1 (drop 136 r)) (holds 24),
       tenths-given 3 1 true anyNumber (take 6 (drop 84 r)) (holds 15),
-      tenths-given 3 1 false (upTo 3599) (take 5 (drop 91 r)) (holds 17),
+      tenths-given 3 1 false ((meantAt 17) .range) (take 5 (drop 91 r)) (holds 17),
       head-field 2 13 r (omega arith),
       Bool·not-not (blank (take 11 r)),
       Bool·not-not (blank (take 11 (drop 125 r))),

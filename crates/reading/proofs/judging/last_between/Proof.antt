@@ -5,11 +5,12 @@ use Prim.Native.Nat.{ℕ, _-_}
 use lib.ListN.{getD, take, drop}
 use denote.Ref.{now}
 use Rattle.columns.specs.Texts.{blank}
-use Rattle.fields.specs.Tenths.{anyNumber, upTo}
+use Rattle.fields.specs.Tenths.{anyNumber}
+use Rattle.fields.specs.Table.{meantAt}
 use Rattle.filing.proofs.RuleLaws.{rule}
 use Rattle.station.specs.Places.{fieldsOf}
-use Rattle.station.specs.Rules.{channelFields, siteFields, emissionFields, antennaFields, filingFields, fieldRules}
-use Rattle.station.specs.Between.{mobile, lastBetween}
+use Rattle.station.specs.Groups.{channelFields, siteFields, emissionFields, antennaFields, filingFields, lastBetween}
+use Rattle.station.specs.Rules.{fieldRules}
 use Rattle.station.specs.Values.{stationOf}
 use Rattle.station.specs.Codes.{valueOf}
 use Rattle.reading.proofs.FilledLaws.{frequency-given, tenths-given, height-given}
@@ -155,7 +156,7 @@ first-broken-requires : tie.Need-first-broken-requires
 first-broken-requires c κs = search needs
 
 returns : tie.Need-returns
-unfolding lastBetween mobile valueOf stationOf fieldsOf fieldRules channelFields siteFields emissionFields antennaFields filingFields
+unfolding lastBetween valueOf stationOf fieldsOf fieldRules channelFields siteFields emissionFields antennaFields filingFields
 returns c =
     let n5 = c .before .before in
     let n4 = n5 .before .before .before in
@@ -173,7 +174,7 @@ returns c =
     ∙ rw (n1 .never-both .ensures, n2 .never-both2 .ensures, n3 .never-both3 .ensures, n4 .never-both4 .ensures, n5 .never-both5 .ensures)
     (rw (n1 .before .before .before .before .before .equal .ensures, n1 .before .is-round .ensures, n1 .before .before .before .is-blank .ensures, n2 .before .is-round2 .ensures, n2 .before .before .before .is-blank2 .ensures)
     (rw (n3 .before .is-filled .ensures, n4 .before .is-blank3 .ensures, n4 .before .before .before .is-filled2 .ensures, n5 .before .is-repeater-name .ensures)
-    (rw (tenths-given 3 1 false (upTo 3599) azimuth (holds 17), tenths-given 2 1 true (upTo 900) elevation (holds 18), tenths-given 2 1 false anyNumber gain (holds 20))
+    (rw (tenths-given 3 1 false ((meantAt 17) .range) azimuth (holds 17), tenths-given 2 1 true ((meantAt 18) .range) elevation (holds 18), tenths-given 2 1 false anyNumber gain (holds 20))
     (rw (height-given (take 4 (drop 71 r)) (holds 13), frequency-given receive (take 1 (drop 136 r)) (holds 24), head-field 2 13 r (omega arith))
     (rw (Bool·not-not (blank azimuth), Bool·not-not (blank elevation), Bool·not-not (blank gain)))))))
 

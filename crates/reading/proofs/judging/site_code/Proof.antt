@@ -2,7 +2,7 @@
 use mathlib.Core.Path.{_≡_, _∙_}
 use denote.Ref.{now}
 use Rattle.station.specs.Places.{fieldsOf}
-use Rattle.station.specs.Rules.{siteFields}
+use Rattle.station.specs.Groups.{siteFields}
 use native.Mathlib.Omega.{arith}
 use borrow.Author.Needs.{needs}
 use Rattle.reading.proofs.judging.site_code.Statement.{statement}

@@ -5,8 +5,9 @@ use denote.Ref.{now}
 use Rattle.filing.specs.Rules.{All, firstBroken}
 use Rattle.filing.proofs.RuleLaws.{all-hold, to-next, from-first}
 use Rattle.station.specs.Places.{fieldsOf}
-use Rattle.station.specs.Rules.{channelFields, siteFields, emissionFields, antennaFields, filingFields, fieldRules}
-use Rattle.station.specs.Between.{firstBetween, lastBetween, betweenRules}
+use Rattle.station.specs.Groups.{channelFields, siteFields, emissionFields, antennaFields, filingFields, firstBetween, lastBetween}
+use Rattle.station.specs.Rules.{fieldRules}
+use Rattle.station.specs.Between.{betweenRules}
 use Rattle.station.specs.Codes.{valueOf, stationCode}
 use borrow.Author.Needs.{needs}
 use Rattle.reading.proofs.judging.station_code.Statement.{statement}

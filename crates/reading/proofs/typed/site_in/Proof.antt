@@ -5,7 +5,8 @@ use lib.ListN.{length}
 use mathlib.Core.Path.{_≡_, _∙_}
 use denote.Ref.{now}
 use Rattle.filing.proofs.RuleLaws.{rule}
-use Rattle.station.specs.Rules.{channelFields, siteFields, emissionFields, antennaFields, filingFields, fieldRules}
+use Rattle.station.specs.Groups.{channelFields, siteFields, emissionFields, antennaFields, filingFields}
+use Rattle.station.specs.Rules.{fieldRules}
 use Rattle.station.specs.Places.{fieldsOf}
 use Rattle.station.specs.Values.{stationOf}
 use Rattle.station.specs.Codes.{valueOf}

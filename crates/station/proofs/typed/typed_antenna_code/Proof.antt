@@ -1,6 +1,6 @@
 -- `station::typed::typed_antenna_code` meets its contract: each test of the code is a rule of the group. Assumes nothing.
 use mathlib.Core.Path.{_∙_}
-use Rattle.station.specs.Rules.{antennaRules}
+use Rattle.station.specs.Groups.{antennaRules}
 use borrow.Author.Needs.{needs}
 use Rattle.station.proofs.typed.typed_antenna_code.Statement.{statement}
 use Rattle.station.proofs.typed.typed_antenna_code.Tie as tie

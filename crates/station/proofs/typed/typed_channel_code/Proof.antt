@@ -1,6 +1,6 @@
 -- `station::typed::typed_channel_code` meets its contract: each test of the code is a rule of the group. Assumes nothing.
 use mathlib.Core.Path.{_∙_}
-use Rattle.station.specs.Rules.{channelRules}
+use Rattle.station.specs.Groups.{channelRules}
 use borrow.Author.Needs.{needs}
 use Rattle.station.proofs.typed.typed_channel_code.Statement.{statement}
 use Rattle.station.proofs.typed.typed_channel_code.Tie as tie

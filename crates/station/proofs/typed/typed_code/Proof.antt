@@ -3,8 +3,9 @@ use mathlib.Core.Path.{_≡_, sym, _∙_}
 use mathlib.Core.List.{_++_}
 use Rattle.filing.specs.Rules.{firstBroken}
 use Rattle.filing.proofs.RuleLaws.{to-next, from-first}
-use Rattle.station.specs.Rules.{channelRules, siteRules, emissionRules, antennaRules, filingRules, typedRules}
-use Rattle.station.specs.Between.{firstBetween, lastBetween, betweenRules}
+use Rattle.station.specs.Groups.{channelRules, siteRules, emissionRules, antennaRules, filingRules, firstBetween, lastBetween}
+use Rattle.station.specs.Rules.{typedRules}
+use Rattle.station.specs.Between.{betweenRules}
 use Rattle.station.specs.Codes.{typedCode}
 use borrow.Author.Needs.{needs}
 use Rattle.station.proofs.typed.typed_code.Statement.{statement}

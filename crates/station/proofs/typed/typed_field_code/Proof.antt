@@ -3,7 +3,8 @@ use mathlib.Core.Path.{_≡_, sym, _∙_}
 use mathlib.Core.List.{_++_}
 use Rattle.filing.specs.Rules.{firstBroken}
 use Rattle.filing.proofs.RuleLaws.{to-next, from-first}
-use Rattle.station.specs.Rules.{channelRules, siteRules, emissionRules, antennaRules, filingRules, typedRules}
+use Rattle.station.specs.Groups.{channelRules, siteRules, emissionRules, antennaRules, filingRules}
+use Rattle.station.specs.Rules.{typedRules}
 use borrow.Author.Needs.{needs}
 use Rattle.station.proofs.typed.typed_field_code.Statement.{statement}
 use Rattle.station.proofs.typed.typed_field_code.Tie as tie

@@ -1,6 +1,6 @@
 -- `station::typed::typed_first_between` meets its contract: each test of the code is a rule. Assumes nothing.
 use mathlib.Core.Path.{_∙_}
-use Rattle.station.specs.Between.{mobile, firstBetween}
+use Rattle.station.specs.Groups.{firstBetween}
 use borrow.Author.Needs.{needs}
 use Rattle.station.proofs.typed.typed_first_between.Statement.{statement}
 use Rattle.station.proofs.typed.typed_first_between.Tie as tie
@@ -39,7 +39,7 @@ first-broken-requires : tie.Need-first-broken-requires
 first-broken-requires c κs = search needs
 
 returns : tie.Need-returns
-unfolding firstBetween mobile
+unfolding firstBetween
 returns c =
     c .first-broken .ensures
     ∙ rw (

@@ -1,6 +1,6 @@
 -- `station::typed::typed_last_between` meets its contract: each test of the code is a rule. Assumes nothing.
 use mathlib.Core.Path.{_∙_}
-use Rattle.station.specs.Between.{mobile, lastBetween}
+use Rattle.station.specs.Groups.{lastBetween}
 use borrow.Author.Needs.{needs}
 use Rattle.station.proofs.typed.typed_last_between.Statement.{statement}
 use Rattle.station.proofs.typed.typed_last_between.Tie as tie
@@ -57,7 +57,7 @@ first-broken-requires : tie.Need-first-broken-requires
 first-broken-requires c κs = search needs
 
 returns : tie.Need-returns
-unfolding lastBetween mobile
+unfolding lastBetween
 returns c =
     c .first-broken .ensures
     ∙ rw (

@@ -4,8 +4,7 @@ use mathlib.Core.Bool.{false}
 use lib.ListN.{length, drop}
 use Rattle.fields.specs.Tenths.{spellTenths}
 use Rattle.fields.specs.Distances.{spellGround}
-use Rattle.station.specs.Rules.{antennaRules}
-use Rattle.station.specs.Spelling.{antennaPieces}
+use Rattle.station.specs.Groups.{antennaRules, antennaPieces}
 use Rattle.filing.proofs.WriteLaws.{nothing-yet, then-one, then-text, then-some, all-written}
 use borrow.Author.Needs.{needs}
 use native.Mathlib.Omega.{arith}

@@ -3,8 +3,7 @@ use mathlib.Core.Path.{_≡_, refl}
 use mathlib.Core.List.{[], _∷_}
 use lib.ListN.{length, drop}
 use Rattle.fields.specs.Frequencies.{spellAmount, spellUnit}
-use Rattle.station.specs.Rules.{channelRules}
-use Rattle.station.specs.Spelling.{channelPieces}
+use Rattle.station.specs.Groups.{channelRules, channelPieces}
 use Rattle.filing.proofs.WriteLaws.{nothing-yet, then-one, then-text, then-some, all-written}
 use borrow.Author.Needs.{needs}
 use native.Mathlib.Omega.{arith}

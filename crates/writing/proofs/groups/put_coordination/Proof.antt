@@ -3,8 +3,7 @@ use mathlib.Core.Path.{_≡_, refl}
 use mathlib.Core.List.{[], _∷_}
 use lib.ListN.{length}
 use Rattle.columns.specs.Dates.{spellDay}
-use Rattle.station.specs.Rules.{filingRules}
-use Rattle.station.specs.Spelling.{filingPieces}
+use Rattle.station.specs.Groups.{filingRules, filingPieces}
 use Rattle.filing.proofs.WriteLaws.{nothing-yet, then-fitting, then-text, all-written}
 use borrow.Author.Needs.{needs}
 use native.Mathlib.Omega.{arith}

@@ -3,8 +3,7 @@ use mathlib.Core.Path.{_≡_}
 use mathlib.Core.Bool.{true, false}
 use lib.ListN.{length, take, drop}
 use Rattle.fields.specs.Tenths.{spellTenths}
-use Rattle.station.specs.Rules.{emissionRules}
-use Rattle.station.specs.Spelling.{emissionPieces}
+use Rattle.station.specs.Groups.{emissionRules, emissionPieces}
 use Rattle.filing.proofs.WriteLaws.{nothing-yet, then-one, all-written}
 use borrow.Author.Needs.{needs}
 use native.Mathlib.Omega.{arith}

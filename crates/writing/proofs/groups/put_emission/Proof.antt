@@ -4,8 +4,7 @@ use mathlib.Core.Bool.{true}
 use mathlib.Core.List.{[], _∷_}
 use lib.ListN.{length, drop}
 use Rattle.fields.specs.Tenths.{spellTenths}
-use Rattle.station.specs.Rules.{emissionRules}
-use Rattle.station.specs.Spelling.{emissionPieces}
+use Rattle.station.specs.Groups.{emissionRules, emissionPieces}
 use Rattle.filing.proofs.WriteLaws.{nothing-yet, then-one, then-text, then-some, all-written}
 use borrow.Author.Needs.{needs}
 use native.Mathlib.Omega.{arith}

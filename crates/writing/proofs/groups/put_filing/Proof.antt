@@ -2,8 +2,7 @@
 use mathlib.Core.Path.{_≡_}
 use lib.ListN.{length, drop}
 use Rattle.fields.specs.Frequencies.{spellAmount, spellUnit}
-use Rattle.station.specs.Rules.{filingRules}
-use Rattle.station.specs.Spelling.{filingPieces}
+use Rattle.station.specs.Groups.{filingRules, filingPieces}
 use Rattle.filing.proofs.WriteLaws.{nothing-yet, then-one, then-text, then-some, all-written}
 use borrow.Author.Needs.{needs}
 use native.Mathlib.Omega.{arith}

@@ -3,8 +3,7 @@ use mathlib.Core.Path.{_≡_}
 use lib.ListN.{length, take, drop}
 use Rattle.fields.specs.Distances.{spellRadius, spellHeight}
 use Rattle.fields.specs.Positions.{spellPosition}
-use Rattle.station.specs.Rules.{siteRules}
-use Rattle.station.specs.Spelling.{sitePieces}
+use Rattle.station.specs.Groups.{siteRules, sitePieces}
 use Rattle.filing.proofs.WriteLaws.{nothing-yet, then-one, all-written}
 use borrow.Author.Needs.{needs}
 use native.Mathlib.Omega.{arith}

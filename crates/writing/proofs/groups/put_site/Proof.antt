@@ -2,8 +2,7 @@
 use mathlib.Core.Path.{_≡_}
 use lib.ListN.{length, drop}
 use Rattle.columns.specs.Dates.{spellDay}
-use Rattle.station.specs.Rules.{siteRules}
-use Rattle.station.specs.Spelling.{sitePieces}
+use Rattle.station.specs.Groups.{siteRules, sitePieces}
 use Rattle.filing.proofs.WriteLaws.{nothing-yet, then-fitting, then-text, then-some, all-written}
 use borrow.Author.Needs.{needs}
 use native.Mathlib.Omega.{arith}

@@ -1,7 +1,7 @@
 -- `writing::groups::put_types` meets its contract: each field is written after the one before it. Assumes nothing.
 use mathlib.Core.Path.{_≡_}
 use lib.ListN.{length}
-use Rattle.station.specs.Spelling.{antennaPieces}
+use Rattle.station.specs.Groups.{antennaPieces}
 use Rattle.filing.proofs.WriteLaws.{nothing-yet, then-text, all-written}
 use borrow.Author.Needs.{needs}
 use native.Mathlib.Omega.{arith}

@@ -11,9 +11,9 @@ use Rattle.columns.specs.declared.numbers.Whole.{Whole}
 use Rattle.columns.specs.declared.numbers.Whole.the-variants as whole
 use Rattle.columns.proofs.RoundTrip.{whole-trip}
 use Rattle.columns.proofs.ColumnLaws.{Column, whole-column, whole-below, skip-spaces}
-use Rattle.header.specs.Values.{inSerial, serialGood, serialOf, serialFits, spellSerial}
-use Rattle.header.specs.declared.Serial.{Serial}
-use Rattle.header.specs.declared.Serial.the-variants as serial
+use Rattle.fields.specs.Serials.{inSerial, serialGood, serialOf, serialFits, spellSerial}
+use Rattle.fields.specs.declared.serials.Serial.{Serial}
+use Rattle.fields.specs.declared.serials.Serial.the-variants as serial
 
 -- a number that was spelt in six columns is read
 spelt : (v : ℕ) → wholeFits 6 v ≡ true → wholeOf (spellWhole 6 v) ≡ whole.Filled v

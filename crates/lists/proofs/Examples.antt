@@ -1,0 +1,11 @@
+-- The examples hold, computed from the definitions. Assumes nothing.
+use mathlib.Core.Path.{refl}
+use Rattle.lists.specs.Fields.{trimmedField, paddedField}
+use Rattle.columns.specs.Texts.{trimmed, skip, howMany}
+use Rattle.lists.specs.Lines.{split, before, behind, isLine}
+use Rattle.lists.specs.Whole.{linesFrom}
+use Rattle.lists.specs.Examples.{Examples}
+
+pub examples : Examples
+unfolding trimmedField trimmed skip paddedField split before behind isLine howMany linesFrom
+examples = record { power-out = refl; power-in = refl; country-out = refl; country-in = refl; blank-out = refl; blank-in = refl; remarks-out = refl; short-line = refl; short-split = refl; short-refused = refl; two-lines = refl; cut-off = refl; empty-line = refl; no-line = refl }
