@@ -1,0 +1,3 @@
+pub mod LookLaws
+pub mod Refusals
+pub mod Unique
