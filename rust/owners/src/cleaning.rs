@@ -35,9 +35,6 @@ pub fn clean(text: &[u8]) -> Outcome<Cleaned> {
     if rest.len() < text.len() {
         changes.push("line 1: byte order mark taken off".to_string());
     }
-    if rest.starts_with(BYTE_ORDER_MARK) {
-        return refuse(1, "there is a second byte order mark");
-    }
     let mut rows = Vec::new();
     for (index, line) in lines(rest).enumerate() {
         rows.push(clean_row(index + 1, line, &mut changes)?);
@@ -71,6 +68,12 @@ fn clean_row(number: usize, line: &[u8], changes: &mut Vec<String>) -> Outcome<R
         return refuse(number, "a carriage return stands elsewhere than before the line feed");
     }
     let (bytes, unquoted) = unquote(number, bare)?;
+    if bytes.starts_with(BYTE_ORDER_MARK) {
+        return refuse(
+            number,
+            "a byte order mark stands inside the list, as where two lists were put together",
+        );
+    }
     let mut done = Vec::new();
     if bare.len() < content.len() {
         done.push("carriage return taken off".to_string());
@@ -103,6 +106,12 @@ fn unquote(number: usize, mut row: &[u8]) -> Outcome<(Vec<u8>, usize)> {
             }
             if cell.contains(&b';') {
                 return refuse(number, "a semicolon stands inside a cell, and no field admits one");
+            }
+            if row.starts_with(b",") {
+                return refuse(
+                    number,
+                    "commas stand between the cells; save the list with semicolons",
+                );
             }
             if !row.is_empty() && !row.starts_with(b";") {
                 return refuse(

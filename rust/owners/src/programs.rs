@@ -161,8 +161,13 @@ fn file_list(asked: &Asked) -> Outcome<()> {
     let changes = Changes::between(&old, &new);
     put(changes.text().as_bytes())?;
     if !asked.has("--fewer") && (changes.gone > 0 || new.stations() < old.stations()) {
-        let (gone, before, after) = (changes.gone, old.stations(), new.stations());
-        return Err(refused(&format!("{gone} of the {before} stations of {} are gone, and the list has {after}; --fewer files it all the same", old_path.display())));
+        return Err(refused(&format!(
+            "{} has {} stations, the list {}, and {} gone; --fewer files it all the same",
+            old_path.display(),
+            old.stations(),
+            new.stations(),
+            are(changes.gone)
+        )));
     }
     if !asked.has("--yes") && !agreed(new_path)? {
         return Err(refused("the answer was not yes"));
@@ -174,8 +179,13 @@ fn file_list(asked: &Asked) -> Outcome<()> {
     eprintln!("file_list: {} is written, {} stations", new_path.display(), new.stations());
     match new.bad() {
         0 => Ok(()),
-        bad => Err(Trouble::Refused(format!("{bad} of them are bad, as the report says"))),
+        bad => Err(Trouble::Refused(format!("{} bad, as the report says", are(bad)))),
     }
+}
+
+/// How many are, or that one is.
+fn are(number: usize) -> String {
+    format!("{number} {}", if number == 1 { "is" } else { "are" })
 }
 
 /// The filing that a list makes under an old header; each line that is refused is named.
@@ -187,10 +197,10 @@ fn listed(old: &Filing, list: &[u8]) -> Outcome<Filing> {
     match taken.refused.len() {
         0 if taken.records.is_empty() => Err(refused("the list has no line")),
         0 => old.with_records(&taken.records).map_err(|refusal| refused(&refusal.to_string())),
-        lines => Err(refused(&format!(
-            "{lines} of the list's {} lines are refused",
-            lines + taken.records.len() / RECORD_LENGTH
-        ))),
+        lines => {
+            let all = lines + taken.records.len() / RECORD_LENGTH;
+            Err(refused(&format!("of the list's {all} lines {} refused", are(lines))))
+        }
     }
 }
 

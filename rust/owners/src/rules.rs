@@ -1,5 +1,7 @@
 //! The fields and rules in a clerk's words, as docs/RULES.md has them: the page is read, not repeated.
 
+use std::sync::OnceLock;
+
 /// The page that clerks read.
 const PAGE: &str = include_str!("../../../docs/RULES.md");
 
@@ -70,8 +72,11 @@ pub fn header_rule(code: usize) -> &'static str {
 }
 
 /// The row of titles that goes above a list for the spreadsheet.
-pub fn titles() -> String {
-    (1..=STATION_FIELDS).map(station_title).collect::<Vec<_>>().join(";") + "\n"
+pub fn titles() -> &'static str {
+    static TITLES: OnceLock<String> = OnceLock::new();
+    TITLES.get_or_init(|| {
+        (1..=STATION_FIELDS).map(station_title).collect::<Vec<_>>().join(";") + "\n"
+    })
 }
 
 /// The paper's name at the front of a title; a unit has none of its own.
