@@ -46,6 +46,12 @@ def one_spelling(made):
     return b";".join(fields) + b"\n"
 
 
+def saved(name):
+    """A list of the seven stations and their titles, or of one that has a cell, as LibreOffice Calc 7.4 saved it."""
+    with open("tests/saved/%s.csv" % name, "rb") as f:
+        return f.read()
+
+
 def quoted(row):
     return b";".join(b'"%s"' % cell for cell in row.rstrip(b"\n").split(b";")) + b"\n"
 
@@ -70,8 +76,8 @@ def cases():
     yield "a_reference_gone", 1, "file_list --yes my list.csv my", {"my": SEVEN, "list.csv": b"".join(LINES[:6]) + good(9)[0]}, {}
     yield "an_empty_list", 1, "file_list --yes --fewer my list.csv new", {"my": SEVEN, "list.csv": b""}, {}
     yield "an_empty_list_taken_in", 1, "list_in list.csv", {"list.csv": b""}, {}
-    cell, number = changed(1, _13Z="20000001E2".ljust(50)), changed(1, _13Z="2000000100".ljust(50))
-    yield "a_number_made_of_a_cell", 1, "echo no | file_list my list.csv my", {"my": filing([cell[1]]), "list.csv": number[0].replace(b"100" + b" " * 40, b"100")}, {}
+    cell = changed(1, _1A="00938.25000", _2C="13032021", _8B1=" 030.5", _9A="120.5", _9B="-02.5", _9G="17.5", _1Y="00893.25000", _13Z="20000001E2".ljust(50))
+    yield "a_number_made_of_a_cell", 1, "echo no | file_list my list.csv my", {"my": filing([cell[1]]), "list.csv": saved("calc_standard_cell")}, {}
     yield "carriage_returns", 1, "list_in list.csv", {"list.csv": windows(LIST)}, {}
     yield "a_byte_order_mark", 1, "list_in list.csv", {"list.csv": BOM + LIST}, {}
     yield "quoted_cells", 1, "list_in list.csv", {"list.csv": b"".join(map(quoted, LINES))}, {}
@@ -98,12 +104,16 @@ def cases():
         yield tool + "_help", 0, "%s -h" % tool, {}, {}
 
     # Each kind of save.
-    yield "saved_by_calc_as_text", 0, "clean_list list.csv | cmp - list.csv && list_in list.csv >records", some, {"records": b"".join(RECORDS)}
-    numbers = LIST.replace(b";01032021;", b";1032021;").replace(b";030.0;", b";30;").replace(b";30.0;", b";30;")
-    yield "saved_by_calc_with_standard_columns", 1, "file_list --yes my list.csv new", {"my": SEVEN, "list.csv": numbers}, {}
-    yield "saved_by_calc_with_quoted_text", 0, "clean_list list.csv >clean.csv && list_in clean.csv >records", {"list.csv": b"".join(map(quoted, LINES))}, {"clean.csv": LIST, "records": b"".join(RECORDS)}
-    yield "saved_by_excel", 0, "clean_list list.csv >clean.csv && file_list --yes my clean.csv new", {"my": SEVEN, "list.csv": windows(LIST)}, {"clean.csv": LIST, "new": SEVEN}
-    yield "saved_by_excel_as_utf_8", 0, "clean_list list.csv >clean.csv && file_list --yes my clean.csv new", {"my": SEVEN, "list.csv": BOM + windows(TITLES + LIST)}, {"clean.csv": LIST, "new": SEVEN}
+    listed = b"".join(map(one_spelling, RECORDS))
+    clean = "clean_list list.csv >clean.csv && file_list --yes my clean.csv new"
+    for kind in "text", "text_quoted":
+        yield "saved_by_calc_as_" + kind, 0, clean, {"my": SEVEN, "list.csv": saved("calc_" + kind)}, {"clean.csv": listed, "new": SEVEN}
+    standard = saved("calc_standard")
+    yield "saved_by_calc_with_standard_columns", 1, clean, {"my": SEVEN, "list.csv": standard}, {"clean.csv": standard.split(b"\n", 1)[1]}
+    yield "saved_by_calc_with_commas", 1, "clean_list list.csv", {"list.csv": saved("calc_text_saved_with_commas")}, {}
+    yield "saved_by_calc_as_the_window_proposes", 1, "list_in list.csv", {"list.csv": saved("calc_window")}, {}
+    yield "saved_by_excel", 0, clean, {"my": SEVEN, "list.csv": windows(LIST)}, {"clean.csv": LIST, "new": SEVEN}
+    yield "saved_by_excel_as_utf_8", 0, clean, {"my": SEVEN, "list.csv": BOM + windows(TITLES + LIST)}, {"clean.csv": LIST, "new": SEVEN}
     yield "saved_with_sep", 0, "clean_list list.csv >clean.csv", {"list.csv": BOM + windows(b"sep=;\n" + TITLES + b"".join(map(quoted, LINES)) + b";" * 29 + b"\n\n")}, {"clean.csv": LIST}
     yield "saved_with_commas", 1, "clean_list list.csv | list_in", {"list.csv": windows(LIST.replace(b";", b","))}, {}
     yield "saved_with_quotes_and_commas", 1, "clean_list list.csv", {"list.csv": windows(b"".join(map(quoted, LINES)).replace(b";", b","))}, {}
@@ -122,7 +132,6 @@ def cases():
     yield "clean_list_leaves_a_last_line_cut_off", 0, "clean_list list.csv | cmp - list.csv", {"list.csv": LIST[:-1]}, {}
 
     # Out with titles and in again.
-    listed = b"".join(map(one_spelling, RECORDS))
     yield "there_and_back", 0, "list_out --titles my >list.csv && clean_list list.csv >clean.csv && file_list --yes my clean.csv my", {"my": SEVEN}, {"list.csv": TITLES + listed, "clean.csv": listed}
 
     # Filing a list.

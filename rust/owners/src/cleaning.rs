@@ -89,6 +89,9 @@ fn clean_row(number: usize, line: &[u8], changes: &mut Vec<String>) -> Outcome<R
 
 /// The cells of a row without the quotation marks around them, and how many had them.
 fn unquote(number: usize, mut row: &[u8]) -> Outcome<(Vec<u8>, usize)> {
+    if row.contains(&b'"') && is_separated_by(b',', row) {
+        return refuse(number, "commas stand between the cells; save the list with semicolons");
+    }
     let (mut bytes, mut unquoted) = (Vec::new(), 0);
     loop {
         let cell = if let Some(inside) = row.strip_prefix(b"\"") {
@@ -106,12 +109,6 @@ fn unquote(number: usize, mut row: &[u8]) -> Outcome<(Vec<u8>, usize)> {
             }
             if cell.contains(&b';') {
                 return refuse(number, "a semicolon stands inside a cell, and no field admits one");
-            }
-            if row.starts_with(b",") {
-                return refuse(
-                    number,
-                    "commas stand between the cells; save the list with semicolons",
-                );
             }
             if !row.is_empty() && !row.starts_with(b";") {
                 return refuse(
@@ -167,6 +164,12 @@ pub fn is_separator_line(row: &[u8]) -> bool {
 /// The row that `list_out --titles` puts above a list.
 pub fn is_titles(row: &[u8]) -> bool {
     rules::titles().strip_suffix('\n').map(str::as_bytes) == Some(row)
+}
+
+/// Whether another byte stands where semicolons have to.
+pub fn is_separated_by(separator: u8, row: &[u8]) -> bool {
+    let count = |wanted: u8| row.iter().filter(|&&byte| byte == wanted).count();
+    count(separator) >= 20 && count(b';') < 20
 }
 
 /// A row in which no cell holds anything.

@@ -5,7 +5,7 @@
 
 use desk::Refusal;
 
-use crate::cleaning::{is_empty, is_separator_line, is_titles, BYTE_ORDER_MARK};
+use crate::cleaning::{is_empty, is_separated_by, is_separator_line, is_titles, BYTE_ORDER_MARK};
 use crate::filings::quoted;
 use crate::rules::{self, Rule};
 
@@ -88,7 +88,6 @@ fn seen(number: usize, line: &[u8], refusal: Refusal, words: &mut Vec<String>) {
     let row = line.strip_suffix(b"\n").unwrap_or(line);
     let row = row.strip_suffix(b"\r").unwrap_or(row);
     let bare = row.strip_prefix(BYTE_ORDER_MARK).unwrap_or(row);
-    let count = |wanted: u8| row.iter().filter(|&&byte| byte == wanted).count();
     if refusal == Refusal::FileTooLong {
         return;
     }
@@ -102,10 +101,10 @@ fn seen(number: usize, line: &[u8], refusal: Refusal, words: &mut Vec<String>) {
         say("cells stand in quotation marks; tools/clean_list takes them off");
     }
     if refusal == Refusal::LineShape {
-        if count(b',') >= 20 && count(b';') < 20 {
+        if is_separated_by(b',', row) {
             say("it has commas where semicolons have to stand; save the list with semicolons between the fields");
         }
-        if count(b'\t') >= 20 && count(b';') < 20 {
+        if is_separated_by(b'\t', row) {
             say("it has tabs where semicolons have to stand; save the list with semicolons between the fields");
         }
         if line.starts_with(b"\xff\xfe") || line.starts_with(b"\xfe\xff") {
@@ -117,7 +116,7 @@ fn seen(number: usize, line: &[u8], refusal: Refusal, words: &mut Vec<String>) {
         if bare.starts_with(b"refused ") {
             say("here tools/list_out says that its file is no filing");
         }
-        if count(b';') == 30 {
+        if desk::line_marks(line).semicolons == 30 {
             say("there is a column too many, as from a note behind 13X, or a semicolon inside a field");
         }
     }
