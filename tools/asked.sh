@@ -1,4 +1,4 @@
-# What a tool is asked: read by the tools that run a proved program. A tool's own first lines are its help.
+# What a tool is asked: read by the other tools. A tool's own first lines are its help.
 set -u
 tool=$(basename "$0")
 here=$(cd "$(dirname "$0")" && pwd -P) || exit 2
@@ -26,8 +26,22 @@ readable() { # FILE
     if [ ! -r "$1" ]; then stop "$1 cannot be read: it is not permitted"; fi
 }
 
+# Says what a tool does where that is asked for.
+help_asked() { # WORD ...
+    for word; do
+        case $word in
+        --) return ;;
+        -h | --help)
+            usage
+            exit 0
+            ;;
+        esac
+    done
+}
+
 # Takes the words of a tool that reads one file, and makes it standard input. Options that the tool knows, it takes itself.
 ask() { # WORD ...
+    help_asked "$@"
     file=- named=
     while [ $# -gt 0 ]; do
         case $1 in
@@ -35,10 +49,6 @@ ask() { # WORD ...
             shift
             while [ $# -gt 0 ]; do take "$1" && shift; done
             break
-            ;;
-        -h | --help)
-            usage
-            exit 0
             ;;
         -?*) known "$1" || wrong "there is no option $1" ;;
         *) take "$1" ;;

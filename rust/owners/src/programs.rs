@@ -19,7 +19,8 @@ use crate::saving::save;
 use crate::status::{Outcome, Trouble};
 use crate::words::explain;
 
-/// A program: its name, its options, how it is used, and what it does.
+/// A program: its name, its options, the tool whose first lines say how it is used, and what it
+/// does.
 struct Program {
     name: &'static str,
     options: &'static [&'static str],
@@ -27,78 +28,47 @@ struct Program {
     act: fn(&Asked) -> Outcome<()>,
 }
 
+impl Program {
+    /// What the program does, as its tool's first lines say.
+    fn help(&self) -> String {
+        let lines = self.usage.lines().skip_while(|line| line.starts_with("#!"));
+        let said = lines.map_while(|line| line.strip_prefix('#'));
+        said.map(|line| format!("{}\n", line.strip_prefix(' ').unwrap_or(line))).collect()
+    }
+}
+
 const PROGRAMS: &[Program] = &[
     Program {
         name: "file_list",
         options: &["--yes", "--fewer"],
-        usage: "usage: tools/file_list [--yes] [--fewer] OLD LIST NEW
-
-Files a semicolon list: its stations under the header of the filing OLD, the number of stations
-set, written to NEW. Prints the desk's report and what changes against OLD, and asks before it
-writes; --yes skips the question. NEW is written whole or not at all, and may be OLD.
-Refused, and then nothing is written: a line that is refused, a header that breaks a rule, an empty
-list, and without --fewer a list that has fewer stations than OLD or lacks one of its references.
-LIST may be - for standard input, with --yes.
-Exit status: 0 all clean and written, 1 something is bad or refused, 2 wrong usage or unreadable.
-",
+        usage: include_str!("../../../tools/file_list"),
         act: file_list,
     },
     Program {
         name: "changes",
         options: &[],
-        usage: "usage: tools/changes OLD NEW
-
-Prints what differs between two filings. Stations are matched by their reference, 13X: those that
-are gone, added or moved, and for each changed field its name, its old and its new bytes.
-Exit status: 0 compared, 1 one of them is no filing or NEW has no station, 2 wrong usage or
-unreadable.
-",
+        usage: include_str!("../../../tools/changes"),
         act: changes,
     },
     Program {
         name: "clean_list",
         options: &[],
-        usage: "usage: tools/clean_list LIST
-
-Prints a list as a spreadsheet saves it without what loses nothing: byte order mark, carriage
-returns, quotation marks around cells, a sep=; line, the row of titles of list_out --titles, and
-empty rows at the end. Every change is named on standard error. What can be read in two ways is
-refused, and then nothing is printed. A clean list comes out as it is. LIST may be -.
-Exit status: 0 printed, 1 refused or no row is left, 2 wrong usage or unreadable.
-",
+        usage: include_str!("../../../tools/clean_list"),
         act: clean_list,
     },
     Program {
         name: "filing",
         options: &[],
-        usage: "usage: tools/filing FILING [RECORDS [NEW]]
-
-Puts records under a header: the first 219 bytes of FILING with the number of stations set, and
-the records behind them. They go to the file NEW, whole or not at all, or to standard output.
-RECORDS is standard input where none is named, or -. Never send the output to FILING itself with >,
-which empties it first; name it as NEW. tools/file_list does all of it, and looks for losses too.
-Exit status: 0 written, 1 no header, no records or too many, 2 wrong usage or unreadable.
-",
+        usage: include_str!("../../../tools/filing"),
         act: filing,
     },
     Program {
         name: "titles",
         options: &[],
-        usage: "usage: owners titles
-
-Prints the row of titles for a list.
-",
+        usage: "# usage: owners titles\n",
         act: |asked| asked.exactly::<0>().and_then(|_| put(rules::titles().as_bytes())),
     },
-    Program {
-        name: "words",
-        options: &[],
-        usage: "usage: owners words LIST
-
-Copies what list_in said of LIST from standard input, with words behind each refusal.
-",
-        act: words,
-    },
+    Program { name: "words", options: &[], usage: "# usage: owners words LIST\n", act: words },
 ];
 
 /// Runs a program by its name.
@@ -111,7 +81,7 @@ pub fn run(name: &str, words: impl Iterator<Item = OsString>) -> ExitCode {
         Ok(asked) => asked,
         Err(trouble) => return end(program, trouble),
     };
-    let done = if asked.help { put(program.usage.as_bytes()) } else { (program.act)(&asked) };
+    let done = if asked.help { put(program.help().as_bytes()) } else { (program.act)(&asked) };
     match done {
         Ok(()) => ExitCode::SUCCESS,
         Err(trouble) => end(program, trouble),
@@ -120,7 +90,8 @@ pub fn run(name: &str, words: impl Iterator<Item = OsString>) -> ExitCode {
 
 /// Says why a run ends, on one line.
 fn end(program: &Program, trouble: Trouble) -> ExitCode {
-    let usage = program.usage.lines().next().unwrap_or("");
+    let help = program.help();
+    let usage = help.lines().find(|line| line.starts_with("usage: ")).unwrap_or("");
     match &trouble {
         Trouble::Wrong(why) => eprintln!("{}: {why}; {usage}", program.name),
         why => eprintln!("{}: {why}", program.name),
