@@ -63,30 +63,17 @@ impl Changes {
     }
 
     fn header(&mut self, old: &Filing, new: &Filing) {
-        let (before, after) = values(desk::respell_header, old.record(0), new.record(0));
-        for field in 1..=rules::HEADER_FIELDS {
-            let range = range(old, 0, field);
-            if before[range.clone()] != after[range] {
-                self.lines.push(changed(
-                    "header",
-                    rules::header_title(field),
-                    old.field(0, field),
-                    new.field(0, field),
-                ));
-            }
+        for field in HEADER.changed(old, 0, new, 0) {
+            let title = rules::header_title(field);
+            self.lines.push(changed("header", title, old.field(0, field), new.field(0, field)));
         }
     }
 
     /// A station of a new reference; where one that is gone had all else, that is said.
     fn addition(&mut self, old: &Filing, gone: &[usize], new: &Filing, station: usize) {
         let mut line = format!("{} added: it is station {station}", name(new, station));
-        let reference = range(new, station, rules::STATION_FIELDS);
         let as_before = gone.iter().find(|&&partner| {
-            let (mut before, mut after) =
-                values(desk::respell_station, old.record(partner), new.record(station));
-            before.drain(reference.clone());
-            after.drain(reference.clone());
-            before == after
+            STATION.changed(old, partner, new, station) == [rules::STATION_FIELDS]
         });
         if let Some(&partner) = as_before {
             line += &format!(", as {} was but for 13X", name(old, partner));
@@ -96,28 +83,18 @@ impl Changes {
     }
 
     fn station(&mut self, old: &Filing, partner: usize, new: &Filing, station: usize) {
+        let fields = STATION.changed(old, partner, new, station);
         if old.record(partner) == new.record(station) {
             self.same += 1;
-            return;
-        }
-        let (before, after) =
-            values(desk::respell_station, old.record(partner), new.record(station));
-        if before == after {
+        } else if fields.is_empty() {
             self.respelled += 1;
-            return;
+        } else {
+            self.changed += 1;
         }
-        self.changed += 1;
-        for field in 1..=rules::STATION_FIELDS {
-            let range = range(new, station, field);
-            if before[range.clone()] != after[range] {
-                let name = name(new, station);
-                self.lines.push(changed(
-                    &name,
-                    rules::station_name(field),
-                    old.field(partner, field),
-                    new.field(station, field),
-                ));
-            }
+        let whose = name(new, station);
+        for field in fields {
+            let (before, after) = (old.field(partner, field), new.field(station, field));
+            self.lines.push(changed(&whose, rules::station_name(field), before, after));
         }
     }
 
@@ -141,7 +118,7 @@ impl Changes {
 }
 
 /// For each new station the old one that it continues. Stations of one reference are matched with
-/// an equal record first, then in their order.
+/// one of equal values first, then in their order.
 fn matched(old: &Filing, new: &Filing) -> Vec<Option<usize>> {
     let mut waiting: HashMap<&[u8], Vec<usize>> = HashMap::new();
     for station in 1..=old.stations() {
@@ -154,9 +131,9 @@ fn matched(old: &Filing, new: &Filing) -> Vec<Option<usize>> {
                 continue;
             }
             if let Some(twins) = waiting.get_mut(new.reference(station)) {
-                let found = twins
-                    .iter()
-                    .position(|&twin| !equal || old.record(twin) == new.record(station));
+                let found = twins.iter().position(|&twin| {
+                    !equal || STATION.changed(old, twin, new, station).is_empty()
+                });
                 partners[station - 1] = found.map(|at| twins.remove(at));
             }
         }
@@ -199,18 +176,40 @@ fn changed(whose: &str, field: &str, before: &[u8], after: &[u8]) -> String {
     format!("{whose} {field}: {} -> {}", quoted(before), quoted(after))
 }
 
-/// A call that writes a record in the one spelling.
-type Respell = fn(&[u8], &mut [u8]) -> Result<(), Refusal>;
+/// A kind of record: the call that writes it in the one spelling, and how many fields it has.
+struct Kind {
+    respell: fn(&[u8], &mut [u8]) -> Result<(), Refusal>,
+    fields: usize,
+}
 
-/// Two records to be compared: in the one spelling where both break no rule, else as they stand.
-fn values(respell: Respell, before: &[u8], after: &[u8]) -> (Vec<u8>, Vec<u8>) {
-    let spelled = |record: &[u8]| {
+const STATION: Kind = Kind { respell: desk::respell_station, fields: rules::STATION_FIELDS };
+const HEADER: Kind = Kind { respell: desk::respell_header, fields: rules::HEADER_FIELDS };
+
+impl Kind {
+    /// A record in the one spelling, where it breaks no rule.
+    fn spelled(&self, record: &[u8]) -> Option<Vec<u8>> {
         let mut out = vec![0; RECORD_LENGTH];
-        respell(record, &mut out).map(|()| out)
-    };
-    match (spelled(before), spelled(after)) {
-        (Ok(before), Ok(after)) => (before, after),
-        _ => (before.to_vec(), after.to_vec()),
+        (self.respell)(record, &mut out).ok().map(|()| out)
+    }
+
+    /// The fields of two records whose values are not the same. One of them that breaks no rule
+    /// tells whether other bytes are another value: with them in its place it is spelled alike or
+    /// not. Where both break rules bytes are compared.
+    fn changed(&self, old: &Filing, partner: usize, new: &Filing, number: usize) -> Vec<usize> {
+        let (before, after) = (old.record(partner), new.record(number));
+        let good = [(after, before), (before, after)]
+            .into_iter()
+            .find_map(|(one, other)| Some((one, other, self.spelled(one)?)));
+        let differs = |&field: &usize| {
+            let range = range(new, number, field);
+            let same_value = good.as_ref().is_some_and(|(one, other, spelling)| {
+                let mut mixed = one.to_vec();
+                mixed[range.clone()].copy_from_slice(&other[range.clone()]);
+                self.spelled(&mixed).as_ref() == Some(spelling)
+            });
+            before[range.clone()] != after[range] && !same_value
+        };
+        (1..=self.fields).filter(differs).collect()
     }
 }
 

@@ -196,3 +196,22 @@ fn stations_are_matched_by_their_reference() {
     );
     assert_eq!((changes.added, changes.gone, changes.changed, changes.same), (1, 1, 1, 2));
 }
+
+#[test]
+fn other_bytes_for_a_value_are_no_change_beside_a_broken_field() {
+    let mut old = filing(&[("001", "0180"), ("001", "0190")]).bytes().to_vec();
+    old[219..230].copy_from_slice(b"  938.2    ");
+    old[438..449].copy_from_slice(b"  938.2    ");
+    old[219 + 91..219 + 96].copy_from_slice(b"360.0");
+    let old = filings::Filing::new(old).unwrap();
+    let new = filing(&[("001", "0190"), ("001", "0180")]);
+    let changes = changes::Changes::between(&old, &new);
+    assert_eq!(
+        changes.lines,
+        [
+            "AUT2311AB01A001 (twin 2) 9A: \"360.0\" -> \"120.0\"",
+            "AUT2311AB01A001 (twin 1) moved: it was station 2, it is station 1",
+        ]
+    );
+    assert_eq!((changes.changed, changes.respelled, changes.same), (1, 1, 0));
+}
