@@ -155,6 +155,7 @@ def cases():
     yield "a_full_disk", 2, "(ulimit -f 1; trap '' XFSZ; file_list --yes my list.csv my)", some, {}
     yield "a_full_disk_that_kills", 0, "(ulimit -f 1; file_list --yes my list.csv my) >said 2>&1; rm -f said .my.new-*", some, {}
     yield "killed_at_the_question", 137, "exec 2>/dev/null; mkfifo answer; file_list my list.csv my <answer >said 2>&1 & exec 3>answer; until grep -q 'yes or no' said; do sleep 0.05; done; kill -KILL $!; wait $!; status=$?; rm answer said; exit $status", some, {}
+    yield "old_changed_at_the_question", 1, "mkfifo answer; file_list my list.csv my <answer >said 2>&1 & exec 3>answer; until grep -q 'yes or no' said; do sleep 0.05; done; printf x >>my; echo yes >&3; wait $!; status=$?; tail -n 1 said; rm answer said; exit $status", some, {"my": SEVEN + b"x"}
     yield "a_list_that_cannot_be_read", 2, "file_list --yes my /proc/self/mem my", some, {}
     yield "a_folder_that_is_not_there", 2, "file_list --yes my list.csv nowhere/new", some, {}
 

@@ -7,7 +7,7 @@ use std::os::unix::fs::MetadataExt;
 use std::path::Path;
 use std::process::ExitCode;
 
-use desk::{Refusal, RECORD_LENGTH};
+use desk::{LongField, Refusal, RECORD_LENGTH};
 
 use crate::asked::{plain, read, Asked};
 use crate::changes::Changes;
@@ -183,8 +183,20 @@ fn refused(why: &str) -> Trouble {
 /// A refused line, as list_in names it, and words behind it.
 fn told(number: usize, line: &[u8], refusal: Refusal) -> String {
     let mut text = format!("line {number} refused {}", refusal.number());
-    if let Refusal::BrokenRule { code } = refusal {
-        text += &format!(" code {code}");
+    match refusal {
+        Refusal::BrokenRule { code } => text += &format!(" code {code}"),
+        Refusal::LineShape => {
+            let marks = desk::line_marks(line);
+            let ended = if marks.ended { "yes" } else { "no" };
+            text += &format!(" semicolons {} line feed {ended}", marks.semicolons);
+        }
+        Refusal::FieldTooLong => {
+            if let Some(LongField { number, length, most }) = desk::long_field(line) {
+                let name = rules::station_name(number);
+                text += &format!(" field {number} {name} length {length} most {most}");
+            }
+        }
+        _ => (),
     }
     text + "\n" + &indented(number, line, refusal)
 }
@@ -204,7 +216,7 @@ fn agreed(path: &Path) -> Outcome<bool> {
     if !answer.ends_with('\n') {
         eprintln!();
     }
-    Ok(matches!(answer.trim(), "yes" | "y"))
+    Ok(matches!(answer.trim().to_ascii_lowercase().as_str(), "yes" | "y"))
 }
 
 /// Whether a name can be that of a file that is written: not a folder or a device, and in a folder
@@ -237,13 +249,15 @@ fn same_file(one: &Path, other: &Path) -> bool {
 
 /// Writes a file whole, or says why it could not.
 fn write(path: &Path, bytes: &[u8]) -> Outcome<()> {
-    save(path, bytes, &mut |_| ()).map_err(|error| {
-        Trouble::Unusable(format!(
-            "{} cannot be written: {}; every file is as it was",
-            path.display(),
-            plain(&error)
-        ))
-    })
+    let synced = save(path, bytes, &mut |_| ()).map_err(|error| {
+        let why = plain(&error);
+        let name = path.display();
+        Trouble::Unusable(format!("{name} cannot be written: {why}; every file is as it was"))
+    })?;
+    if !synced {
+        eprintln!("{} is written, but its folder could not be synced", path.display());
+    }
+    Ok(())
 }
 
 fn changes(asked: &Asked) -> Outcome<()> {

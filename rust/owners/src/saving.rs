@@ -22,8 +22,9 @@ pub enum Stage {
 }
 
 /// Puts bytes into a file: into a new one beside it, which then takes its place. Whatever happens
-/// before that, what the file held before is there.
-pub fn save(path: &Path, bytes: &[u8], watch: &mut dyn FnMut(Stage)) -> io::Result<()> {
+/// before that, what the file held before is there. Answers whether the folder is on the disk
+/// too, so that not even a power cut can bring the old file back.
+pub fn save(path: &Path, bytes: &[u8], watch: &mut dyn FnMut(Stage)) -> io::Result<bool> {
     // Where the name is a link, the file that it leads to is replaced, and the link stays.
     let place = fs::canonicalize(path).unwrap_or_else(|_| path.to_path_buf());
     let beside = beside(&place);
@@ -33,7 +34,7 @@ pub fn save(path: &Path, bytes: &[u8], watch: &mut dyn FnMut(Stage)) -> io::Resu
         return Err(error);
     }
     watch(Stage::Renamed);
-    File::open(folder(&place))?.sync_all()
+    Ok(File::open(folder(&place)).and_then(|folder| folder.sync_all()).is_ok())
 }
 
 /// Writes the bytes into a new file beside the old one, with its permissions, and looks whether
