@@ -160,6 +160,27 @@ uint8_t desk_list_out(const uint8_t *record, size_t record_length,
 uint8_t desk_list_in(const uint8_t *line, size_t line_length,
                      uint8_t *record, size_t record_length, uint8_t *code);
 
+/*
+ * Why a line is refused with 10 or 11. Both calls take any bytes and change none.
+ */
+
+/*
+ * The marks of a line: how many semicolons and line feeds it has, and in `ended` 1 if its last
+ * byte is a line feed, else 0. A line is refused with 10 exactly if they are not 29, 1 and 1.
+ * Refusals: 10.
+ */
+uint8_t desk_line_marks(const uint8_t *line, size_t line_length,
+                        size_t *semicolons, size_t *feeds, uint8_t *ended);
+
+/*
+ * The first of a line's thirty fields that is longer than its columns: its number from 1, how
+ * many bytes it has and how many it may have; all three are 0 if there is none. A line whose
+ * marks are right is refused with 11 exactly if there is such a field.
+ * Refusals: 11.
+ */
+uint8_t desk_long_field(const uint8_t *line, size_t line_length,
+                        size_t *number, size_t *length, size_t *most);
+
 #ifdef __cplusplus
 }
 #endif

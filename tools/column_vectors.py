@@ -11,6 +11,8 @@ import itertools
 import re
 import string
 
+from makers import asked
+
 BAD, BLANK = "bad", "blank"
 TEXT = set(b"+-/*.(),= " + (string.ascii_letters + string.digits).encode())
 
@@ -207,4 +209,5 @@ def main():
 
 
 if __name__ == "__main__":
+    asked(__doc__)
     main()

@@ -9,6 +9,8 @@ usage: desk_cases.py     from the repository's root
 """
 import os
 
+from makers import asked
+
 # Station S of the paper, its fields in the order of their columns.
 STATION = {
     "1A": "  938.2    ", "1A unit": "M", "1Z": "2", "6A": "FB", "6B": "CP", "6Z": "L ", "10Z": "1", "2C": "01032021",
@@ -210,4 +212,5 @@ def main():
 
 
 if __name__ == "__main__":
+    asked(__doc__)
     main()

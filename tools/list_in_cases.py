@@ -2,8 +2,8 @@
 """Makes the cases of the list's way in: tests/list_in/NAME.in, lines as they come in, NAME.out, the records that must be
 written, and NAME.err, what must be said of the lines that are refused. Also crates/list_in/stdin and stdout.
 
-Nothing here reads a line or judges one. Each line is built from good fields, some of them damaged, and beside each damage
-stands, by hand, the number that the paper gives its refusal. A record that is expected is built from the table of fields,
+Nothing here judges a line. Each is built from good fields, some of them damaged, and beside each damage stands, by hand, the
+number that the paper gives its refusal; what is told beside 10 and 11 is counted in the line. A record that is expected is built from the table of fields,
 each in the one spelling, which stands here by hand too.
 
 usage: list_in_cases.py     from the repository's root
@@ -11,6 +11,7 @@ usage: list_in_cases.py     from the repository's root
 import os
 
 from desk_cases import BROKEN, GOOD, STATION, record, reference, write
+from makers import asked
 
 # The fields of station S that it has in another spelling than the one.
 SPELLED = {
@@ -51,9 +52,26 @@ def good(k, form=trimmed):
     return line(form(changes)), record(STATION, spelled)
 
 
+def told(given, refusal):
+    """What is told beside a refusal: with 10 the marks, with 11 the first field that is too long. Of a line that is longer than
+    the buffer its first bytes are looked at, and semicolons are counted up to 30."""
+    if refusal == 10:
+        n = given.count(b";")
+        count = "30 or more" if len(given) > LONGEST and n >= 30 else "%d" % n
+        return " semicolons %s line feed %s" % (count, "yes" if given.endswith(b"\n") else "no")
+    if refusal == 11:
+        fields = given[:LONGEST + 1].rstrip(b"\n").split(b";")
+        for number, (field, (name, text)) in enumerate(zip(fields, STATION.items()), 1):
+            if len(field) > len(text):
+                name = "unit of " + name[:2] if name.endswith(" unit") else name
+                more = " or more" if len(given) > LONGEST + 1 else ""
+                return " field %d %s length %d%s most %d" % (number, name, len(field), more, len(text))
+    return ""
+
+
 def bad(given, refusal, code=None):
     """A line that is refused, and what is said of it."""
-    return given, "refused %d" % refusal + ("" if code is None else " code %d" % code)
+    return given, "refused %d" % refusal + ("" if code is None else " code %d" % code) + told(given, refusal)
 
 
 def damaged(changes, refusal, code=None, form=trimmed):
@@ -196,4 +214,5 @@ def main():
 
 
 if __name__ == "__main__":
+    asked(__doc__)
     main()

@@ -11,6 +11,7 @@ usage: list_out_cases.py     from the repository's root
 import os
 
 from desk_cases import BROKEN, BROKEN_HEADER, GOOD, STATION, header, record, reference, write
+from makers import asked
 
 # The one spelling of each number and place in these files, by field: all digit places filled, a minus in the sign column.
 SPELLED = {
@@ -132,4 +133,5 @@ def main():
 
 
 if __name__ == "__main__":
+    asked(__doc__)
     main()

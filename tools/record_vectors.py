@@ -10,6 +10,7 @@ usage: record_vectors.py     from the repository's root
 import random
 
 import column_vectors as columns
+from makers import asked
 
 PLACES = [(1, 11), (12, 1), (13, 1), (14, 2), (16, 2), (18, 2), (20, 1), (21, 8), (29, 20), (49, 3), (52, 15), (67, 5),
           (72, 4), (76, 9), (85, 6), (91, 1), (92, 5), (97, 5), (102, 2), (104, 4), (108, 4), (112, 7), (119, 7), (126, 11),
@@ -185,4 +186,5 @@ def main():
 
 
 if __name__ == "__main__":
+    asked(__doc__)
     main()

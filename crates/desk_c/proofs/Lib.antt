@@ -1,3 +1,5 @@
 pub mod EndingLaws
 pub mod Unique
 pub mod ShownLaws
+pub mod ReasonLaws
+pub mod UniqueReasons

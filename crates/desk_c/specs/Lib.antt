@@ -1,3 +1,4 @@
 pub mod Endings
 pub mod Records
+pub mod Reasons
 pub mod Promises

@@ -2,4 +2,5 @@
 mod endings;
 pub mod filings;
 pub mod listing;
+pub mod reasons;
 pub mod records;

@@ -1,5 +1,8 @@
 // A semicolon list comes in on standard input; the record of each line that is accepted goes to standard output, and a line
-// that is refused is named on standard error.
+// that is refused is named on standard error, with what the library tells of it.
+mod telling;
+
+use crate::telling::tell_reason;
 use filing::outcomes::code_with;
 use filing::outcomes::is_done;
 use filing::outcomes::refusal_number;
@@ -42,15 +45,17 @@ fn name(line: u64, refusal: u8, code: u8) {
         io::write_all(2, b" code ");
         io::print_decimal(2, code as u64);
     }
-    io::write_all(2, b"\n");
 }
 
 // A line is refused, and the next one begins.
-fn refuse(progress: Progress, refusal: u8, code: u8) -> Progress
+fn refuse(line: &[u8; 250], progress: Progress, refusal: u8, code: u8) -> Progress
     ensures { λ r. ⌜ Begun (r .gathered) ⌝ }
 {
     let lines = next(progress.lines);
+    let gathered = progress.gathered;
     name(lines, refusal, code);
+    tell_reason(line, gathered, refusal);
+    io::write_all(2, b"\n");
     Progress {
         gathered: nothing(),
         lines,
@@ -96,10 +101,10 @@ fn end_line(line: &[u8; 250], progress: Progress) -> Progress
     let gathered = progress.gathered;
     let outcome = file_gathered(line, gathered, &mut record);
     if !is_done(outcome) {
-        return refuse(progress, refusal_number(outcome), code_with(outcome));
+        return refuse(line, progress, refusal_number(outcome), code_with(outcome));
     }
     if 250 <= progress.records {
-        return refuse(progress, 1, 0);
+        return refuse(line, progress, 1, 0);
     }
     write(progress, &record)
 }

@@ -33,7 +33,7 @@ pub(crate) fn is_mark(c: u8) -> bool
 }
 
 // How many bytes stand before the first mark of a text; behind it the next field begins.
-pub(crate) fn field_length(s: &[u8]) -> usize
+pub fn field_length(s: &[u8]) -> usize
     ensures { λ r. ⌜ (r ≤ length (now (s .entry))) × (before (now (s .entry)) ≡ take r (now (s .entry))) × (behind (now (s .entry)) ≡ drop (r + 1) (now (s .entry))) ⌝ }
 {
     let mut i: usize = 0;

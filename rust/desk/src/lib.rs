@@ -256,6 +256,52 @@ pub fn list_in(line: &[u8], record: &mut [u8]) -> Result<(), Refusal> {
     answer(refusal, code, ())
 }
 
+/// The marks of a line.
+#[derive(Clone, Copy, Debug, PartialEq, Eq)]
+pub struct Marks {
+    /// How many semicolons it has; a station's line has 29.
+    pub semicolons: usize,
+    /// How many line feeds it has; a station's line has one.
+    pub feeds: usize,
+    /// Whether a line feed is its last byte.
+    pub ended: bool,
+}
+
+/// The marks of any bytes. A line is refused with 10 exactly if they are not those of a line.
+///
+/// ```
+/// let marks = desk::line_marks(b"00938.2;M;2\n");
+/// assert_eq!(marks, desk::Marks { semicolons: 2, feeds: 1, ended: true });
+/// ```
+pub fn line_marks(line: &[u8]) -> Marks {
+    let (_, semicolons, feeds, ended) = raw::line_marks(line);
+    Marks { semicolons, feeds, ended: ended == 1 }
+}
+
+/// A field of a line that is longer than its columns.
+#[derive(Clone, Copy, Debug, PartialEq, Eq)]
+pub struct LongField {
+    /// The field's number, from 1.
+    pub number: usize,
+    /// How many bytes it has.
+    pub length: usize,
+    /// How many it may have.
+    pub most: usize,
+}
+
+/// The first field of a line that is longer than its columns. A line with its marks is refused
+/// with 11 exactly if there is one.
+///
+/// ```
+/// let field = desk::long_field(b"00938.20000;MHz;2;FB\n");
+/// assert_eq!(field, Some(desk::LongField { number: 2, length: 3, most: 1 }));
+/// assert_eq!(desk::long_field(b";;\n"), None);
+/// ```
+pub fn long_field(line: &[u8]) -> Option<LongField> {
+    let (_, number, length, most) = raw::long_field(line);
+    (number > 0).then_some(LongField { number, length, most })
+}
+
 /// A value as the library is told of it; with a blank it does not look at the number.
 fn stated(value: Option<i64>) -> (u8, i64) {
     value.map_or((0, 0), |number| (1, number))

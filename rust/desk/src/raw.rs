@@ -102,6 +102,20 @@ extern "C" {
         record_length: usize,
         code: *mut u8,
     ) -> u8;
+    fn desk_line_marks(
+        line: *const u8,
+        line_length: usize,
+        semicolons: *mut usize,
+        feeds: *mut usize,
+        ended: *mut u8,
+    ) -> u8;
+    fn desk_long_field(
+        line: *const u8,
+        line_length: usize,
+        number: *mut usize,
+        length: *mut usize,
+        most: *mut usize,
+    ) -> u8;
 }
 
 /// `desk_judge`: the refusal.
@@ -208,6 +222,25 @@ pub fn list_out(record: &[u8], line: &mut [u8]) -> (u8, usize, u8) {
 /// `desk_list_in`: the refusal and the code.
 pub fn list_in(line: &[u8], record: &mut [u8]) -> (u8, u8) {
     rewrite(desk_list_in, line, record)
+}
+
+/// `desk_line_marks`: the refusal, the semicolons, the line feeds and whether the line ends in one.
+pub fn line_marks(line: &[u8]) -> (u8, usize, usize, u8) {
+    let (mut semicolons, mut feeds, mut ended) = (NO_COUNT, NO_COUNT, NO_CODE);
+    // SAFETY: the pointer is good for the length of its slice; the answers are places of our own.
+    let refusal = unsafe {
+        desk_line_marks(line.as_ptr(), line.len(), &mut semicolons, &mut feeds, &mut ended)
+    };
+    (refusal, semicolons, feeds, ended)
+}
+
+/// `desk_long_field`: the refusal, the field's number, its bytes and its columns.
+pub fn long_field(line: &[u8]) -> (u8, usize, usize, usize) {
+    let (mut number, mut length, mut most) = (NO_COUNT, NO_COUNT, NO_COUNT);
+    // SAFETY: the pointer is good for the length of its slice; the answers are places of our own.
+    let refusal =
+        unsafe { desk_long_field(line.as_ptr(), line.len(), &mut number, &mut length, &mut most) };
+    (refusal, number, length, most)
 }
 
 fn check(call: Check, record: &[u8]) -> (u8, u8) {

@@ -86,7 +86,25 @@ impl Comparison {
             untouched(call.name, &ours, to);
         }
         self.tally.answer(call.name, answer);
+        if call.name == LIST_IN.name && answer.0 != 7 {
+            self.reasons(from, answer.0);
+        }
         ours.part().to_vec()
+    }
+
+    /// Compares the calls that say why a line is refused, and asks that they say what the refusal
+    /// does.
+    fn reasons(&mut self, line: &[u8], refusal: u8) {
+        let lent = Lent::new(line);
+        let marks = raw::line_marks(lent.part());
+        agree("line_marks", marks, oracle::line_marks(line), &[line]);
+        let field = raw::long_field(lent.part());
+        agree("long_field", field, oracle::long_field(line), &[line]);
+        untouched("long_field", &lent, line);
+        agree("list_in and line_marks", refusal == 10, marks.0 == 10, &[line]);
+        agree("list_in and long_field", refusal == 11, marks.0 == 0 && field.0 == 11, &[line]);
+        self.tally.refusal("line_marks", marks.0);
+        self.tally.refusal("long_field", field.0);
     }
 
     /// Compares a setter.

@@ -81,6 +81,19 @@ pub fn list_in(line: &[u8], record: &mut [u8]) -> (u8, u8) {
     numbers(&peer::lists::read_line(line).and_then(|station| station.write(record)))
 }
 
+/// `desk_line_marks`.
+pub fn line_marks(line: &[u8]) -> (u8, usize, usize, u8) {
+    let (semicolons, feeds, ended) = peer::lists::marks(line);
+    let refusal = if (semicolons, feeds, ended) == (29, 1, true) { 0 } else { 10 };
+    (refusal, semicolons, feeds, ended.into())
+}
+
+/// `desk_long_field`.
+pub fn long_field(line: &[u8]) -> (u8, usize, usize, usize) {
+    peer::lists::long_field(line)
+        .map_or((0, 0, 0, 0), |(number, length, most)| (11, number, length, most))
+}
+
 /// A value as the boundary states it: blank where `filled` is 0.
 fn stated(filled: u8, number: i64) -> Option<i64> {
     (filled != 0).then_some(number)

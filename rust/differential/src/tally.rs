@@ -19,6 +19,8 @@ const REFUSALS: &[(&str, &[u8])] = &[
     ("set_ground", &[0, 6, 9]),
     ("list_out", &[0, 6, 9, 12]),
     ("list_in", &[0, 7, 9, 10, 11]),
+    ("line_marks", &[0, 10]),
+    ("long_field", &[0, 11]),
 ];
 
 /// Counts of answers, by what was asked and what was given.

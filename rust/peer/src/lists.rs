@@ -50,6 +50,22 @@ pub fn read_line(line: &[u8]) -> Result<Station, Refusal> {
     Station::read(&record)
 }
 
+/// How many semicolons and line feeds some bytes have, and whether they end in a line feed.
+pub fn marks(line: &[u8]) -> (usize, usize, bool) {
+    let count = |mark: u8| line.iter().filter(|&&byte| byte == mark).count();
+    (count(SEPARATOR), count(END), line.last() == Some(&END))
+}
+
+/// The first of the thirty fields that is longer than its columns: its number, its length and its
+/// columns. A field ends before a semicolon or a line feed.
+pub fn long_field(line: &[u8]) -> Option<(usize, usize, usize)> {
+    let fields = line.split(|&byte| byte == SEPARATOR || byte == END);
+    let mut numbered = fields.zip(STATION_FIELDS).enumerate();
+    numbered.find_map(|(index, (field, [_, columns]))| {
+        (field.len() > columns).then_some((index + 1, field.len(), columns))
+    })
+}
+
 /// Whether the field is a whole number or decimal: 1A, 4D, 4Z, 8B1, 9A, 9B, 9G, 9Y, 1Y.
 fn padded_left(code: usize) -> bool {
     matches!(code, 1 | 12 | 13 | 15 | 17 | 18 | 20 | 21 | 24)

@@ -1,0 +1,4 @@
+pub mod LookLaws
+pub mod Refusals
+pub mod HeldLaws
+pub mod Unique

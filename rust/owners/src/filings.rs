@@ -1,0 +1,139 @@
+//! A filing in memory: its records, fields and report, all by the library's calls.
+
+use std::path::Path;
+
+use desk::{Refusal, MAX_STATIONS, RECORD_LENGTH};
+
+use crate::asked;
+use crate::rules;
+use crate::status::{Outcome, Trouble};
+
+/// The field of a header that holds the number of stations.
+const COUNT: usize = 9;
+
+/// The field of a station that holds its reference, 13X.
+const REFERENCE: usize = 30;
+
+/// A file that the library judges, and the sheet that it gave.
+pub struct Filing {
+    bytes: Vec<u8>,
+    sheet: Vec<u8>,
+}
+
+impl Filing {
+    /// Judges bytes; they are refused where they are no filing.
+    pub fn new(bytes: Vec<u8>) -> Result<Filing, Refusal> {
+        let records = (bytes.len() / RECORD_LENGTH).clamp(1, MAX_STATIONS + 1);
+        let mut sheet = vec![0; desk::sheet_length(records - 1)];
+        desk::judge(&bytes, &mut sheet)?;
+        Ok(Filing { bytes, sheet })
+    }
+
+    /// Reads and judges a file.
+    pub fn read(path: &Path) -> Outcome<Filing> {
+        let bytes = asked::read(path)?;
+        let length = bytes.len();
+        Filing::new(bytes).map_err(|refusal| {
+            let number = refusal.number();
+            let name = path.display();
+            Trouble::Refused(format!(
+                "{name} is no filing: refused {number}, it has {length} bytes: {refusal}"
+            ))
+        })
+    }
+
+    /// Puts records under the header of this filing, the number of stations set.
+    pub fn with_records(&self, records: &[u8]) -> Result<Filing, Refusal> {
+        let mut bytes = self.bytes[..RECORD_LENGTH].to_vec();
+        let count = format!("{:6}", records.len() / RECORD_LENGTH);
+        let (before, width) = place(&bytes, 0, COUNT);
+        if count.len() == width {
+            bytes[before..before + width].copy_from_slice(count.as_bytes());
+        }
+        bytes.extend_from_slice(records);
+        Filing::new(bytes)
+    }
+
+    /// All bytes.
+    pub fn bytes(&self) -> &[u8] {
+        &self.bytes
+    }
+
+    /// How many stations there are.
+    pub fn stations(&self) -> usize {
+        self.bytes.len() / RECORD_LENGTH - 1
+    }
+
+    /// A record, 0 being the header.
+    pub fn record(&self, number: usize) -> &[u8] {
+        &self.bytes[number * RECORD_LENGTH..][..RECORD_LENGTH]
+    }
+
+    /// A field of a record, 0 being the header.
+    pub fn field(&self, number: usize, field: usize) -> &[u8] {
+        desk::show(&self.bytes, number, field).expect("a filing has its fields")
+    }
+
+    /// The reference of a station, 13X.
+    pub fn reference(&self, station: usize) -> &[u8] {
+        self.field(station, REFERENCE)
+    }
+
+    /// The code of the header, 0 where it breaks no rule.
+    pub fn header_code(&self) -> u8 {
+        self.trailer(3)
+    }
+
+    /// How many stations are bad.
+    pub fn bad(&self) -> usize {
+        self.trailer(5).into()
+    }
+
+    /// The desk's report: the header's code, a line for each bad station, the totals.
+    pub fn report(&self) -> String {
+        let mut report = format!("header {}\n", self.header_code());
+        let rows = self.sheet.chunks(2).take(self.stations());
+        for (index, row) in rows.enumerate().filter(|(_, row)| *row != [0, 0]) {
+            report += &format!("station {} code {} twin {}\n", index + 1, row[0], row[1]);
+        }
+        report + &format!("stations {} bad {}\n", self.stations(), self.bad())
+    }
+
+    /// What each bad line of the report means, with the field's bytes.
+    pub fn explained(&self) -> String {
+        let mut words = String::new();
+        let code = self.header_code().into();
+        if code != 0 {
+            let field = if code > rules::HEADER_FIELDS { COUNT } else { code };
+            words += &format!(
+                "header: {} is {}; the rule: {}\n",
+                rules::header_title(code),
+                quoted(self.field(0, field)),
+                rules::header_rule(code)
+            );
+        }
+        for station in 1..=self.stations() {
+            let twin = self.sheet[2 * station - 1];
+            if twin != 0 {
+                let reference = quoted(self.reference(station));
+                words += &format!("station {station}: 13X {reference} is that of station {twin} too; one of them needs another reference, or has to go\n");
+            }
+        }
+        words
+    }
+
+    fn trailer(&self, byte: usize) -> u8 {
+        self.sheet[2 * self.stations() + byte]
+    }
+}
+
+/// Bytes between quotation marks; those that cannot be printed as `\xff`.
+pub fn quoted(bytes: &[u8]) -> String {
+    format!("\"{}\"", bytes.escape_ascii().to_string().replace("\\'", "'"))
+}
+
+/// Where a field stands in a file: the bytes before it, and its length.
+fn place(file: &[u8], number: usize, field: usize) -> (usize, usize) {
+    let (_, offset, length) = desk::raw::show(file, number, field);
+    (offset, length)
+}

@@ -1,0 +1,18 @@
+//! Owners' lists without a loss: a list filed under an old header, what it changes, what is
+//! refused and why, and what a spreadsheet added taken off.
+//!
+//! Whatever accepts or refuses is a call of the library; this crate reads files, calls, compares
+//! bytes, and says in words what came of it.
+
+#![forbid(unsafe_code)]
+
+pub mod asked;
+pub mod changes;
+pub mod cleaning;
+pub mod filings;
+pub mod lists;
+pub mod programs;
+pub mod rules;
+pub mod saving;
+pub mod status;
+pub mod words;

@@ -1,0 +1,195 @@
+#!/usr/bin/env python3
+"""Makes the owners' cases: tests/owners/NAME/, a folder for each with the files that are there, `command`, what is run beside
+them, `status`, how it must end, and in `after/` the files that must be there then and were not, or not so. What must be
+printed, `out` and `err`, is kept beside them and not made here.
+
+Filings and lists are built from the good stations of list_in_cases.py; nothing here reads a list or judges one.
+
+usage: owner_cases.py     from the repository's root
+"""
+import os
+import shutil
+
+from desk_cases import STATION, header, record, reference, write
+from list_in_cases import SPELLED, good, line, trimmed
+from makers import asked
+
+AT = "tests/owners/"
+BOM = b"\xef\xbb\xbf"
+TITLES = open("docs/RULES.md", encoding="utf-8").read().split("## Stations: each field")[1].split("\n\n")[1].split("\n")[2:]
+TITLES = ";".join(row.split(" | ")[1] for row in TITLES).encode("ascii") + b"\n"
+
+
+def filing(records):
+    return header(len(records)) + b"".join(records)
+
+
+# Seven good stations in the one spelling, and their lines.
+LINES, RECORDS = map(list, zip(*(good(k) for k in range(1, 8))))
+SEVEN = filing(RECORDS)
+LIST = b"".join(LINES)
+
+
+def changed(k, **fields):
+    """Station S under reference k with some fields changed, as a line and as a record."""
+    changes = {name.lstrip("_"): text for name, text in fields.items()}
+    changes["13X"] = reference(k, 0)
+    return line(trimmed(changes)), record(STATION, {**SPELLED, **changes})
+
+
+def one_spelling(made):
+    """The line that list_out gives of a record in the one spelling."""
+    fields = []
+    for name, text in STATION.items():
+        field, made = made[:len(text)], made[len(text):]
+        fields.append(field if name == "13Z" else field.strip())
+    return b";".join(fields) + b"\n"
+
+
+def saved(name):
+    """A list of the seven stations and their titles, or of one that has a cell, as LibreOffice Calc 7.4 saved it."""
+    with open("tests/saved/%s.csv" % name, "rb") as f:
+        return f.read()
+
+
+def quoted(row):
+    return b";".join(b'"%s"' % cell for cell in row.rstrip(b"\n").split(b";")) + b"\n"
+
+
+def windows(text):
+    return text.replace(b"\n", b"\r\n")
+
+
+def cases():
+    bad = LINES[:2] + [LINES[2].replace(b";FB;", b";FBX;").replace(b";ML;", b";MLX;").replace(b";FL;", b";FLX;")] + LINES[3:]
+    bad = b"".join(bad)
+    some = {"my": SEVEN, "list.csv": LIST}
+
+    # The rows of the table, one by one.
+    yield "a_line_lost_in_a_pipe", 1, "list_in bad.csv | filing my - | desk", {"my": SEVEN, "bad.csv": bad}, {}
+    yield "a_refused_line", 1, "file_list --yes my bad.csv new", {"my": SEVEN, "bad.csv": bad}, {}
+    yield "a_filing_onto_itself_by_the_shell", 1, "filing my records >my", {"my": SEVEN, "records": b"".join(RECORDS[:6])}, {"my": b""}
+    yield "a_filing_onto_itself", 0, "filing my records my", {"my": SEVEN, "records": b"".join(RECORDS[:6])}, {"my": filing(RECORDS[:6])}
+    fewer = b"".join(LINES[:2] + LINES[4:])
+    yield "two_rows_deleted", 1, "file_list --yes my list.csv my", {"my": SEVEN, "list.csv": fewer}, {}
+    yield "two_rows_deleted_and_asked_for", 0, "file_list --yes --fewer my list.csv my", {"my": SEVEN, "list.csv": fewer}, {"my": filing(RECORDS[:2] + RECORDS[4:])}
+    yield "a_reference_gone", 1, "file_list --yes my list.csv my", {"my": SEVEN, "list.csv": b"".join(LINES[:6]) + good(9)[0]}, {}
+    yield "an_empty_list", 1, "file_list --yes --fewer my list.csv new", {"my": SEVEN, "list.csv": b""}, {}
+    yield "an_empty_list_taken_in", 1, "list_in list.csv", {"list.csv": b""}, {}
+    cell = changed(1, _1A="00938.25000", _2C="13032021", _8B1=" 030.5", _9A="120.5", _9B="-02.5", _9G="17.5", _1Y="00893.25000", _13Z="20000001E2".ljust(50))
+    yield "a_number_made_of_a_cell", 1, "echo no | file_list my list.csv my", {"my": filing([cell[1]]), "list.csv": saved("calc_standard_cell")}, {}
+    yield "carriage_returns", 1, "list_in list.csv", {"list.csv": windows(LIST)}, {}
+    yield "a_byte_order_mark", 1, "list_in list.csv", {"list.csv": BOM + LIST}, {}
+    yield "quoted_cells", 1, "list_in list.csv", {"list.csv": b"".join(map(quoted, LINES))}, {}
+    yield "a_row_of_titles", 1, "list_in list.csv", {"list.csv": TITLES + LIST}, {}
+    yield "titles_of_ones_own", 1, "list_in list.csv", {"list.csv": b";".join(b"Spalte %c" % c for c in range(65, 91)) + b";a;b;c;d\n" + LIST}, {}
+    dotted = LIST.replace(b";01032021;", b";01.03.2021;")
+    yield "dotted_dates", 1, "list_in list.csv", {"list.csv": dotted}, {}
+    twice = filing([RECORDS[0], RECORDS[1], RECORDS[0]])
+    broken = filing([RECORDS[0], record(STATION, {"9A": "360.0"})])
+    yield "desk_on_a_twin", 1, "desk my", {"my": twice}, {}
+    yield "desk_on_a_bad_station", 1, "desk my", {"my": broken}, {}
+    yield "desk_on_a_bad_header", 1, "desk my", {"my": header(1, {"version": "2.0"}) + RECORDS[0]}, {}
+    yield "desk_on_a_header_alone", 1, "desk my", {"my": header(0)}, {}
+    yield "desk_on_no_filing", 1, "desk my", {"my": SEVEN[:-1]}, {}
+    yield "desk_on_a_good_filing", 0, "desk my; desk <my; desk - <my; desk -- my", {"my": SEVEN}, {}
+    yield "list_out_of_a_bad_station", 1, "list_out --titles my", {"my": broken}, {}
+    yield "list_out_of_no_filing", 1, "list_out --titles my", {"my": SEVEN[:-1]}, {}
+    yield "list_out_of_a_header_alone", 1, "list_out my", {"my": header(0)}, {}
+    for tool, words in (("desk", ""), ("list_out", ""), ("list_in", ""), ("clean_list", ""), ("filing", ""), ("changes", "my "), ("file_list", "my list.csv ")):
+        yield tool + "_on_a_directory", 2, "mkdir folder; %s %sfolder; status=$?; rmdir folder; exit $status" % (tool, words), some, {}
+        yield tool + "_on_no_file", 2, "%s %snowhere/none" % (tool, words), some, {}
+        yield tool + "_with_an_unknown_option", 2, "%s --all %smy" % (tool, words), some, {}
+        yield tool + "_with_a_word_too_many", 2, "%s %smy my more more" % (tool, words), some, {}
+        yield tool + "_help", 0, "%s -h" % tool, {}, {}
+
+    # Each kind of save.
+    listed = b"".join(map(one_spelling, RECORDS))
+    clean = "clean_list list.csv >clean.csv && file_list --yes my clean.csv new"
+    for kind in "text", "text_quoted":
+        yield "saved_by_calc_as_" + kind, 0, clean, {"my": SEVEN, "list.csv": saved("calc_" + kind)}, {"clean.csv": listed, "new": SEVEN}
+    standard = saved("calc_standard")
+    yield "saved_by_calc_with_standard_columns", 1, clean, {"my": SEVEN, "list.csv": standard}, {"clean.csv": standard.split(b"\n", 1)[1]}
+    yield "saved_by_calc_with_commas", 1, "clean_list list.csv", {"list.csv": saved("calc_text_saved_with_commas")}, {}
+    yield "saved_by_calc_as_the_window_proposes", 1, "list_in list.csv", {"list.csv": saved("calc_window")}, {}
+    yield "saved_by_excel", 0, clean, {"my": SEVEN, "list.csv": windows(LIST)}, {"clean.csv": LIST, "new": SEVEN}
+    yield "saved_by_excel_as_utf_8", 0, clean, {"my": SEVEN, "list.csv": BOM + windows(TITLES + LIST)}, {"clean.csv": LIST, "new": SEVEN}
+    yield "saved_with_sep", 0, "clean_list list.csv >clean.csv", {"list.csv": BOM + windows(b"sep=;\n" + TITLES + b"".join(map(quoted, LINES)) + b";" * 29 + b"\n\n")}, {"clean.csv": LIST}
+    yield "saved_with_commas", 1, "clean_list list.csv | list_in", {"list.csv": windows(LIST.replace(b";", b","))}, {}
+    yield "saved_with_quotes_and_commas", 1, "clean_list list.csv", {"list.csv": windows(b"".join(map(quoted, LINES)).replace(b";", b","))}, {}
+    yield "saved_as_utf_16", 1, "clean_list list.csv", {"list.csv": LIST.decode().encode("utf-16")}, {}
+
+    # What clean_list refuses, and leaves.
+    yield "clean_list_a_quotation_mark_inside", 1, "clean_list list.csv", {"list.csv": LINES[0].replace(b";FB;", b';"F""B";')}, {}
+    yield "clean_list_a_semicolon_inside", 1, "clean_list list.csv", {"list.csv": LINES[0].replace(b";CP;", b';"C;P";')}, {}
+    yield "clean_list_a_line_feed_inside", 1, "clean_list list.csv", {"list.csv": LINES[0].replace(b";CP;", b';"C\nP";')}, {}
+    yield "clean_list_a_carriage_return_inside", 1, "clean_list list.csv", {"list.csv": LINES[0].replace(b";CP;", b";C\rP;")}, {}
+    yield "clean_list_titles_sorted_down", 1, "clean_list list.csv", {"list.csv": LIST + TITLES}, {}
+    yield "clean_list_another_separator", 1, "clean_list list.csv", {"list.csv": b"sep=,\n" + LIST}, {}
+    yield "clean_list_empty_rows_alone", 1, "clean_list list.csv", {"list.csv": b";" * 29 + b"\n\r\n"}, {}
+    middle = LINES[0] + b";" * 29 + b"\n" + LINES[1]
+    yield "clean_list_leaves_an_empty_row_between", 0, "clean_list list.csv | cmp - list.csv", {"list.csv": middle}, {}
+    yield "clean_list_leaves_a_last_line_cut_off", 0, "clean_list list.csv | cmp - list.csv", {"list.csv": LIST[:-1]}, {}
+
+    # Out with titles and in again.
+    yield "there_and_back", 0, "list_out --titles my >list.csv && clean_list list.csv >clean.csv && file_list --yes my clean.csv my", {"my": SEVEN}, {"list.csv": TITLES + listed, "clean.csv": listed}
+
+    # Filing a list.
+    order = LINES[3:4] + LINES[0:3] + [LINES[4], LINES[6], LINES[5], good(20)[0]]
+    yield "changes_shown_and_agreed", 0, "echo yes | file_list my list.csv my", {"my": SEVEN, "list.csv": b"".join(order)}, {"my": filing([RECORDS[3]] + RECORDS[0:3] + [RECORDS[4], RECORDS[6], RECORDS[5], good(20)[1]])}
+    yield "changes_not_agreed", 1, "echo no | file_list my list.csv my", {"my": SEVEN, "list.csv": b"".join(order)}, {}
+    yield "no_answer", 1, "file_list my list.csv my </dev/null", some, {}
+    yield "a_list_on_standard_input", 0, "file_list --yes my - new <list.csv", some, {"new": SEVEN}
+    yield "a_list_on_standard_input_without_yes", 2, "file_list my - new <list.csv", some, {}
+    yield "names_with_spaces_and_dashes", 0, "file_list --yes -- 'my filing' '-list of ours.csv' -new && desk -- -new", {"my filing": SEVEN, "-list of ours.csv": LIST}, {"-new": SEVEN}
+    yield "the_list_as_new", 2, "file_list --yes my list.csv list.csv", some, {}
+    yield "twins_are_filed_and_named", 1, "file_list --yes my list.csv my", {"my": SEVEN, "list.csv": LIST + LINES[2]}, {"my": filing(RECORDS + [RECORDS[2]])}
+    yield "a_bad_header", 1, "file_list --yes my list.csv new", {"my": header(7, {"version": "1.1"}) + b"".join(RECORDS), "list.csv": LIST}, {}
+    yield "old_is_no_filing", 1, "file_list --yes my list.csv new", {"my": SEVEN[:-1], "list.csv": LIST}, {}
+    yield "a_first_list", 0, "file_list --yes my list.csv my", {"my": header(0), "list.csv": LIST}, {"my": SEVEN}
+    many = [good(k) for k in range(1, 252)]
+    yield "stations_251", 1, "file_list --yes my list.csv new", {"my": header(0), "list.csv": b"".join(l for l, _ in many)}, {}
+    yield "a_link_is_kept", 0, "ln -s my link && file_list --yes link list.csv link && test -L link && rm link", some, {}
+
+    # Nothing is lost where it cannot be done.
+    yield "a_full_disk", 2, "(ulimit -f 1; trap '' XFSZ; file_list --yes my list.csv my)", some, {}
+    yield "a_full_disk_that_kills", 0, "(ulimit -f 1; file_list --yes my list.csv my) >said 2>&1; rm -f said .my.new-*", some, {}
+    yield "killed_at_the_question", 137, "exec 2>/dev/null; mkfifo answer; file_list my list.csv my <answer >said 2>&1 & exec 3>answer; until grep -q 'yes or no' said; do sleep 0.05; done; kill -KILL $!; wait $!; status=$?; rm answer said; exit $status", some, {}
+    yield "old_changed_at_the_question", 1, "mkfifo answer; file_list my list.csv my <answer >said 2>&1 & exec 3>answer; until grep -q 'yes or no' said; do sleep 0.05; done; printf x >>my; echo yes >&3; wait $!; status=$?; tail -n 1 said; rm answer said; exit $status", some, {"my": SEVEN + b"x"}
+    yield "a_list_that_cannot_be_read", 2, "file_list --yes my /proc/self/mem my", some, {}
+    yield "a_folder_that_is_not_there", 2, "file_list --yes my list.csv nowhere/new", some, {}
+
+    # Changes.
+    two = changed(2, _13Z=("2" + " " * 12 + "Stadtplatz 1").ljust(50)), changed(2, _13Z=("2" + " " * 12 + "Stadtplatz 2").ljust(50), _4Z="0181")
+    yield "changed_fields", 0, "changes old new", {"old": filing([RECORDS[0], two[0][1]]), "new": filing([RECORDS[0], two[1][1]])}, {}
+    yield "changes_none", 0, "changes my my", {"my": SEVEN}, {}
+    yield "changes_of_twins", 0, "changes old new", {"old": filing([RECORDS[0], RECORDS[1], RECORDS[0]]), "new": filing([changed(1, _4Z="0199")[1], RECORDS[0], RECORDS[1], RECORDS[0]])}, {}
+    yield "changes_of_spelling", 0, "changes old new", {"old": filing([record(STATION, {"13X": reference(1, 0)})]), "new": filing([record(STATION, {**SPELLED, "13X": reference(1, 0)})])}, {}
+    yield "changes_of_a_header", 0, "changes old new", {"old": SEVEN, "new": header(7, {"person": "NOVAK, B.".ljust(20)}) + b"".join(RECORDS)}, {}
+    yield "changes_to_nothing", 1, "changes old new", {"old": SEVEN, "new": header(0)}, {}
+    yield "changes_of_no_filing", 1, "changes old new", {"old": SEVEN, "new": SEVEN[:-1]}, {}
+
+
+def main():
+    names = set()
+    for name, status, command, files, after in cases():
+        at = AT + name + "/"
+        names.add(name)
+        kept = {what: open(at + what, "rb").read() for what in ("out", "err") if os.path.exists(at + what)}
+        shutil.rmtree(at, ignore_errors=True)
+        os.makedirs(at)
+        for what, content in kept.items():
+            write(at + what, content)
+        for what, content in {**files, "command": command + "\n", "status": "%d\n" % status}.items():
+            write(at + what, content)
+        for what, content in after.items():
+            os.makedirs(at + "after", exist_ok=True)
+            write(at + "after/" + what, content)
+    for name in sorted(set(os.listdir(AT)) - names):
+        shutil.rmtree(AT + name)
+    print(len(names), "cases")
+
+
+if __name__ == "__main__":
+    asked(__doc__)
+    main()
