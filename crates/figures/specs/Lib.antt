@@ -1,3 +1,4 @@
 pub mod Samples
 pub mod Figures
 pub mod Worked
+pub mod Typed
