@@ -2,4 +2,5 @@ pub mod Sets
 pub mod Texts
 pub mod Numbers
 pub mod Decimals
+pub mod Calendar
 pub mod Dates

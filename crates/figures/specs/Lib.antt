@@ -2,3 +2,4 @@ pub mod Samples
 pub mod Figures
 pub mod Worked
 pub mod Typed
+pub mod Days
