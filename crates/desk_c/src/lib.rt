@@ -3,3 +3,4 @@ mod endings;
 pub mod filings;
 pub mod listing;
 pub mod records;
+pub mod rules;

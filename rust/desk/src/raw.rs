@@ -102,6 +102,13 @@ extern "C" {
         record_length: usize,
         code: *mut u8,
     ) -> u8;
+    fn desk_rules() -> u32;
+}
+
+/// `desk_rules`: the number of the rules.
+pub fn rules() -> u32 {
+    // SAFETY: the call takes nothing.
+    unsafe { desk_rules() }
 }
 
 /// `desk_judge`: the refusal.
