@@ -6,10 +6,10 @@
  * the trailer: distance from the sheet's end back to its first row (two bytes, high first),
  * width 2, header code, lowest bad row or 0, number of bad rows, "2A".
  *
- * Every function returns the number of its refusal, DESK_DONE (0) if there is none. Where more
- * than one refusal applies the lowest number is given, unless the function says otherwise. A
- * refused call changes no lent byte. The answers behind `code`, `rows`, `offset` and `length`
- * are always written; `code` is 0 with any refusal but DESK_REFUSED_RULE (9).
+ * Every function but desk_rules returns the number of its refusal, DESK_DONE (0) if there is
+ * none. Where more than one refusal applies the lowest number is given, unless the function says
+ * otherwise. A refused call changes no lent byte. The answers behind `code`, `rows`, `offset` and
+ * `length` are always written; `code` is 0 with any refusal but DESK_REFUSED_RULE (9).
  *
  * Each pointer and the length after it are one lent slice. No pointer may be NULL, even where the
  * length is 0, and no two slices of a call may overlap. No pointer is kept after the call, and
@@ -180,6 +180,15 @@ uint8_t desk_line_marks(const uint8_t *line, size_t line_length,
  */
 uint8_t desk_long_field(const uint8_t *line, size_t line_length,
                         size_t *number, size_t *length, size_t *most);
+
+/*
+ * The number of the rules that records are judged by: 1 for those of document 01, 2 since dates
+ * have to be days of the calendar. It is counted up by each change of a rule, and a sheet does not
+ * say by which rules it was judged: keep this number beside each sheet that you store, and judge
+ * the file again with desk_judge where the number kept is another or there is none. This call
+ * has no refusal.
+ */
+uint32_t desk_rules(void);
 
 #ifdef __cplusplus
 }

@@ -2,11 +2,12 @@
 """Makes the column vectors: crates/column_vectors/stdin, and beside it what the program must print.
 
 The answers are worked out here from the paper's own sentences, by regular expressions and integer
-arithmetic, and share nothing with the library. A vector is a letter for the kind of column, three
+arithmetic, days by Python's own calendar, and share nothing with the library. A vector is a letter for the kind of column, three
 digits for the width, a colon, the bytes and a line feed.
 
 usage: column_vectors.py     from the repository's root
 """
+import datetime
 import itertools
 import re
 import string
@@ -67,7 +68,11 @@ def date(b):
     if not re.fullmatch(rb"[0-9]{8}", b):
         return BAD
     d, m, y = int(b[:2]), int(b[2:4]), int(b[4:])
-    return (d, m, y) if 1 <= d <= 31 and 1 <= m <= 12 and 1901 <= y <= 9999 else BAD
+    try:
+        datetime.date(y, m, d)
+    except ValueError:
+        return BAD
+    return (d, m, y) if y >= 1901 else BAD
 
 
 def position(b):
@@ -166,6 +171,7 @@ def vectors():
         for v in (0, 1, -1, most, most + 1, -most, -most - 1, 999999999999999999, -999999999999999999, 999, -999, -1000, 3600, 901):
             yield kind, str(v).encode()
     yield from each("D", "01032021", "00032021", "31122021", "32122021", "01001999", "01131999", "01012000", "01011900", "01011901", "31129999", "1 032021", " 1032021", "01032021 ", "0103202", "01 32021", "30022021", "0103202a", "01-32021", "+1032021")
+    yield from each("D", "29021904", "29022000", "29022024", "29022400", "29021901", "29022023", "29022100", "29021900", "30022024", "30022000", "31042024", "31062024", "31092024", "31112024", "30042024", "30062024", "30092024", "30112024", "31012023", "31032023", "31052023", "31072023", "31082023", "31102023", "31122023", "28022023", "28022100", "32012024", "31022024", "31002024", "29139999")
     yield from each("L", "016E22 548N12 0", "016E220548N1200", "180E000000N0000", "180E000100N0000", "180E000000N9000", "180W000000S9000", "181E000000N0000", "000E000090N0000", "000E000000N9001", "000W000000S0000", "016W220548S1200", "016e220548N1200", "016E220548n1200", "016N220548E1200", "016E600048N1200", "016E226048N1200", "016E220548N6000", "016E220548N1260", "16 E220548N1200", " 16E220548N1200", "  6E 2 5 8N 2 0", "   E220548N1200", "016E  0548N1200", "016E220548N12  ", "0160220548N1200", "-16E220548N1200", "999E595999N5959", "180E 0 090N 0 0", "016E220548N120", "016E220548N12000")
     for b in ("5M00", "500M", "50M0", "M500", "H500", "5H00", "500H", "0M00", "5000", "5MM0", "5M0K", "K500", "G123", "1G23", "12K5", "HHHH", "5m00", " 5M0"):
         yield "M", (b + "G7W  ").encode()

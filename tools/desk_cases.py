@@ -170,6 +170,17 @@ def full():
     return made
 
 
+# Days that there are and days that there are not, in stations: the field, its text and the station's code.
+DAYS = [("2C", "29022024", 0), ("2C", "30022024", 8), ("2C", "29022023", 8), ("2C", "31129999", 0), ("2W", "29022000", 0),
+        ("2W", "31042024", 28), ("2W", "31112024", 28), ("2Z", "30042024", 0), ("2Z", "29022100", 29), ("2Z", "32012024", 29)]
+
+
+def dated(date, head):
+    """A filing whose header has a date and whose stations have these days, and what is printed of it."""
+    stations = [record(STATION, {field: text, "13X": reference(k, 0)}) for k, (field, text, _) in enumerate(DAYS, 1)]
+    return header(len(DAYS), {"date": date}) + b"".join(stations), report(head, [(code, 0) for _, _, code in DAYS])
+
+
 def cases():
     twice = [station(1), station(2, owner=1)]
     yield "two_stations", *filing(twice)
@@ -178,6 +189,8 @@ def cases():
     for code in BROKEN_HEADER:
         yield "header_code_%02d" % code, *filing([], head=code)
     yield "header_and_stations_broken", *filing([station(1, code=17), station(2), station(3, code=30)], head=3)
+    yield "days_of_the_calendar", *dated("29022024", 0)
+    yield "header_date_of_no_day", *dated("30022024", 10)
     whole, lines = filing(full())
     assert len(whole) == 54969
     yield "full", whole, lines

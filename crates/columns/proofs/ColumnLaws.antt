@@ -16,7 +16,8 @@ use Rattle.columns.specs.Sets.{isDigit}
 use Rattle.columns.specs.Texts.{bytes, head, ended, skip, blank, every, each, byteGood, same, oneOf, sized, textGood}
 use Rattle.columns.specs.Numbers.{leading, number, numberFrom, wholeDigits, wholeOf, wholeFilled, amount, withSign, inSign, hasMinus, unsigned, numberOf, passes, spellDigits, spellWhole, isNegative, wholeFits}
 use Rattle.columns.specs.Decimals.{magnitudeOf, decimalOf, decimalFits, decimalWidth, spellDecimal}
-use Rattle.columns.specs.Dates.{within, dateRule, dateIn, dateOf, dayPasses, dateFilled, inDay, spellDate, dayGood, dayOf, dayFits, spellDay, dateGood, dateFits}
+use Rattle.columns.specs.Calendar.{daysIn}
+use Rattle.columns.specs.Dates.{within, dateBy, dateRule, dateIn, dateOf, dayPasses, dateFilled, inDay, spellDate, dayGood, dayOf, dayFits, spellDay, dateGood, dateFits}
 use Rattle.columns.specs.declared.numbers.Whole.{Whole}
 use Rattle.columns.specs.declared.numbers.Whole.the-variants as whole
 use Rattle.columns.specs.declared.numbers.Signed.{Signed}
@@ -27,6 +28,7 @@ use Rattle.columns.specs.declared.dates.Dated.the-variants as dated
 use Rattle.columns.specs.declared.dates.Day.{Day}
 use Rattle.columns.specs.declared.dates.Day.the-variants as day
 use Rattle.columns.proofs.TextLaws.{and-split, and-both, cond-case, each-replicate}
+use Rattle.columns.proofs.CalendarLaws.{days-two-digits}
 use Rattle.columns.proofs.NumberLaws.{digit-range, leading-inside, leading-digits, number-below}
 use Rattle.columns.proofs.DecimalLaws.{magnitude-below}
 use Rattle.columns.proofs.Signs.{natAbs-neg}
@@ -179,31 +181,36 @@ whole-length k v = spelled-length k v [] ∙ omega arith
 at-most : (low high n : ℕ) → within low high n ≡ true → n ≤ high
 at-most low high n e = leb-true n high (and-split (leb low n) (leb n high) e .1)
 
--- a date that keeps its rule has two, two and four digits
+-- a date has two, two and four digits
 record Digits (d : Date) : Type 0 where
   day-two : d .day < 10 ^ 2
   month-two : d .month < 10 ^ 2
   year-four : d .year < 10 ^ 4
 
+-- by any rule of days that gives no month as many as a hundred
+digits-by : (days : ℕ → ℕ → ℕ) → ((m y : ℕ) → days m y < 10 ^ 2) → (d : Date) → dateBy days d ≡ true → Digits d
+digits-by days few d e =
+    let last = days (d .month) (d .year) in
+    let h = and-split (within 1 12 (d .month) && within 1901 9999 (d .year)) (within 1 last (d .day)) e in
+    let g = and-split (within 1 12 (d .month)) (within 1901 9999 (d .year)) (h .0) in
+    record {
+      day-two = omega (arith, at-most 1 last (d .day) (h .1), few (d .month) (d .year));
+      month-two = omega (arith, at-most 1 12 (d .month) (g .0));
+      year-four = omega (arith, at-most 1901 9999 (d .year) (g .1));
+    }
+
+-- and so by the calendar
 date-digits : (d : Date) → dateRule d ≡ true → Digits d
 unfolding dateRule
-date-digits d e =
-    let h = and-split (within 1 31 (d .day) && within 1 12 (d .month)) (within 1901 9999 (d .year)) e in
-    let g = and-split (within 1 31 (d .day)) (within 1 12 (d .month)) (h .0) in
-    record {
-      day-two = omega (arith, at-most 1 31 (d .day) (g .0));
-      month-two = omega (arith, at-most 1 12 (d .month) (g .1));
-      year-four = omega (arith, at-most 1901 9999 (d .year) (h .1));
-    }
+date-digits d e = digits-by daysIn (λ m y. omega (arith, days-two-digits m y)) d e
 
 says : (k v : ℕ) → v < 10 ^ k → number (spellWhole k v) ≡ v
 says k v h = spelled-says k 0 v h ∙ simp (zero-mul, zero-add)
 
 -- what is spelled is the date again
-date-in-trip : (d : Date) → dateRule d ≡ true → dateIn (spellDate d) ≡ d
+date-in-trip : (d : Date) → Digits d → dateIn (spellDate d) ≡ d
 unfolding dateIn
-date-in-trip d e =
-    let g = date-digits d e in
+date-in-trip d g =
     let day = spellWhole 2 (d .day) in
     let month = spellWhole 2 (d .month) in
     let year = spellWhole 4 (d .year) in
@@ -243,7 +250,7 @@ unfolding dateOf
 date-trip d e =
     let g = and-split (eqb (length (spellDate d)) 8) (every isDigit (spellDate d)) (sym (each-replicate 8 isDigit (spellDate d)) ∙ date-spelled d) in
     let n : length (spellDate d) ≡ 8 = eqb-true (length (spellDate d)) 8 (g .0) in
-    rw (digits-filled (spellDate d) (g .1) (omega arith), date-spelled d, date-in-trip d e, e)
+    rw (digits-filled (spellDate d) (g .1) (omega arith), date-spelled d, date-in-trip d (date-digits d e), e)
 
 -- a date that was read keeps its rule
 abbrev KeepsRule : Dated → Type 0

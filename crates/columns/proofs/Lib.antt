@@ -1,5 +1,6 @@
 pub mod SetLaws
 pub mod TextLaws
+pub mod CalendarLaws
 pub mod NumberLaws
 pub mod DecimalLaws
 pub mod Signs

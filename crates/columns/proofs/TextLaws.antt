@@ -1,7 +1,7 @@
 -- What the tests on texts do at a place of a list.
 -- Assumes nothing.
 use mathlib.Core.Path.{_≡_, refl, sym, ap, _∙_}
-use mathlib.Core.Bool.{Bool, true, false, cond, not, _&&_, _||_, false≢true, and-false}
+use mathlib.Core.Bool.{Bool, true, false, cond, not, _&&_, _||_, false≢true, and-true, and-false, and-assoc}
 use mathlib.Core.List.{List, [], _∷_, _++_}
 use Prim.Native.Nat.{ℕ, zero, suc, _+_, _-_, _≤_, _<_}
 use native.Mathlib.Omega.{arith}
@@ -11,7 +11,7 @@ use native.Mathlib.Numerals.{add-one, sub-one}
 use lib.Arith.{lt-of-le-ne}
 use lib.Dec.{leb, eqb, eqb·suc-suc}
 use lib.ListN.{length, getD, take, drop, replicate, length-drop, drop-of-length-le, List·getD-eq-default}
-use lib.Seq.{drop-cons, getD-drop, drop-drop, take-all, take-suc, length-take-le}
+use lib.Seq.{drop-cons, getD-drop, drop-drop, take-all, take-suc, take-length, length-take-le}
 use borrow.Author.Tests.{eq-eqb, ne-eqb}
 use Rattle.columns.specs.Texts.{head, tail, ended, skip, blank, trimmed, every, each, same, textIn}
 
@@ -100,19 +100,7 @@ pub every-end : (test : ℕ → Bool) (s : List ℕ) (i : ℕ) → length s ≤ 
 unfolding every
 every-end test s i h = rw (drop-of-length-le s h)
 
--- equal texts
-pub same-more : (a b : List ℕ) (i : ℕ) → i < length a → i < length b → getD a i 0 ≡ getD b i 0 → same (drop i a) (drop i b) ≡ same (drop (i + 1) a) (drop (i + 1) b)
-unfolding same
-same-more a b i h g e = rw (add-one, drop-cons a i 0, drop-cons b i 0, eq-eqb (getD b i 0) (getD a i 0) (sym e))
-
-pub same-not : (a b : List ℕ) (i : ℕ) → i < length a → i < length b → (getD a i 0 ≡ getD b i 0 → ⊥) → same (drop i a) (drop i b) ≡ false
-unfolding same
-same-not a b i h g n = rw (drop-cons a i 0, drop-cons b i 0, ne-eqb (getD b i 0) (getD a i 0) (λ e. n (sym e)))
-
-pub same-end : (a b : List ℕ) (i : ℕ) → length a ≤ i → length b ≤ i → same (drop i a) (drop i b) ≡ true
-unfolding same
-same-end a b i h g = rw (drop-of-length-le a h, drop-of-length-le b g)
-
+-- equal texts have one length
 pub same-length : (a b : List ℕ) → same a b ≡ true → length a ≡ length b
 unfolding same
 same-length [] [] e = refl
@@ -193,3 +181,29 @@ trimmed-on s n h l e = ap trimmed (first-bytes s n h l) ∙ rw e (trim-space (ta
 
 pub trimmed-off : (s : List ℕ) (n : ℕ) → 0 < n → n ≤ length s → (getD s (n - 1) 0 ≡ 32 → ⊥) → trimmed (take n s) ≡ take n s
 trimmed-off s n h l e = rw (first-bytes s n h l) (trim-other (take (n - 1) s) (getD s (n - 1) 0) e)
+
+-- equal texts with a byte more at the end of each
+same-last : (a b : List ℕ) (x y : ℕ) → length a ≡ length b → same (a ++ (x ∷ [])) (b ++ (y ∷ [])) ≡ same a b && eqb y x
+unfolding same
+same-last [] [] x y l = and-true (eqb y x)
+same-last [] (d ∷ b) x y l = absurd (omega (arith, l))
+same-last (c ∷ a) [] x y l = absurd (omega (arith, l))
+same-last (c ∷ a) (d ∷ b) x y l = rw (same-last a b x y (omega (arith, l))) (sym (and-assoc (eqb d c) (same a b) (eqb y x)))
+
+-- the first n bytes of two texts of one length are equal where the first n - 1 are and byte n is
+same-before : (a b : List ℕ) (n : ℕ) → 0 < n → n ≤ length a → length a ≡ length b → same (take n a) (take n b) ≡ same (take (n - 1) a) (take (n - 1) b) && eqb (getD b (n - 1) 0) (getD a (n - 1) 0)
+same-before a b n h l e =
+    rw (first-bytes a n h l, first-bytes b n h (omega (arith, l, e)))
+    (same-last (take (n - 1) a) (take (n - 1) b) (getD a (n - 1) 0) (getD b (n - 1) 0)
+    (length-take-le (n - 1) a (omega (arith, l)) ∙ sym (length-take-le (n - 1) b (omega (arith, l, e)))))
+
+-- a comparison from the back: at first nothing is passed
+pub same-whole : (a b : List ℕ) → length a ≡ length b → same a b ≡ same (take (length a) a) (take (length a) b)
+same-whole a b e = rw (take-length a, e, take-length b)
+
+-- a byte that is equal is passed, one that is not decides
+pub same-on : (a b : List ℕ) (n : ℕ) → 0 < n → n ≤ length a → length a ≡ length b → getD a (n - 1) 0 ≡ getD b (n - 1) 0 → same (take n a) (take n b) ≡ same (take (n - 1) a) (take (n - 1) b)
+same-on a b n h l e q = same-before a b n h l e ∙ rw (eq-eqb (getD b (n - 1) 0) (getD a (n - 1) 0) (sym q)) (and-true (same (take (n - 1) a) (take (n - 1) b)))
+
+pub same-off : (a b : List ℕ) (n : ℕ) → 0 < n → n ≤ length a → length a ≡ length b → (getD a (n - 1) 0 ≡ getD b (n - 1) 0 → ⊥) → same (take n a) (take n b) ≡ false
+same-off a b n h l e q = same-before a b n h l e ∙ rw (ne-eqb (getD b (n - 1) 0) (getD a (n - 1) 0) (λ f. q (sym f))) (and-false (same (take (n - 1) a) (take (n - 1) b)))

@@ -1,4 +1,4 @@
--- Document 01, "How columns are read": dates.
+-- Document 01, "How columns are read": dates; of real days, as document 02, wish 2, has it.
 use Prim.Native.Nat.{ℕ}
 use mathlib.Core.Bool.{Bool, true, false, cond, _&&_}
 use mathlib.Core.List.{List, []}
@@ -7,6 +7,7 @@ use lib.Dec.{leb}
 use Rattle.columns.specs.Sets.{isDigit}
 use Rattle.columns.specs.Texts.{blank, each}
 use Rattle.columns.specs.Numbers.{number, spellDigits}
+use Rattle.columns.specs.Calendar.{daysIn}
 use Rattle.columns.specs.declared.dates.Date.{Date}
 use Rattle.columns.specs.declared.dates.Dated.{Dated}
 use Rattle.columns.specs.declared.dates.Dated.the-variants as dated
@@ -17,9 +18,13 @@ use Rattle.columns.specs.declared.dates.Day.the-variants as day
 abbrev pub within : ℕ → ℕ → ℕ → Bool
 within low high n = leb low n && leb n high
 
--- The date rule: day 01 to 31, month 01 to 12, year 1901 to 9999.
+-- A date by a rule of how many days a month has in a year: month 01 to 12, year 1901 to 9999, day 01 to the month's last.
+abbrev pub dateBy : (ℕ → ℕ → ℕ) → Date → Bool
+dateBy days d = within 1 12 (d .month) && within 1901 9999 (d .year) && within 1 (days (d .month) (d .year)) (d .day)
+
+-- The date rule: a day of the calendar.
 unfoldable pub dateRule : Date → Bool
-dateRule d = within 1 31 (d .day) && within 1 12 (d .month) && within 1901 9999 (d .year)
+dateRule d = dateBy daysIn d
 
 -- Eight digits: two of the day, two of the month, four of the year.
 unfoldable pub dateIn : List ℕ → Date

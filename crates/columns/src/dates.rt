@@ -1,4 +1,5 @@
 // Dates: eight digits, day, month and year, read and written.
+use crate::calendar::days_in;
 use crate::numbers::digits;
 use crate::numbers::put_digits;
 use crate::sets::Set;
@@ -41,17 +42,18 @@ fn is_within(low: u16, high: u16, n: u16) -> bool
     if low <= n { n <= high } else { false }
 }
 
-// The date rule: day 1 to 31, month 1 to 12, year 1901 to 9999.
+// The date rule: month 1 to 12, year 1901 to 9999, and a day that the month has in that year.
 pub fn is_date(d: Date) -> bool
     ensures { λ r. ⌜ r ≡ dateRule d ⌝ }
 {
-    if !is_within(1, 31, d.day as u16) {
-        return false;
-    }
     if !is_within(1, 12, d.month as u16) {
         return false;
     }
-    is_within(1901, 9999, d.year)
+    if !is_within(1901, 9999, d.year) {
+        return false;
+    }
+    let last = days_in(d.month, d.year);
+    is_within(1, last as u16, d.day as u16)
 }
 
 // The number that up to four digits say.

@@ -52,19 +52,20 @@ pub fn all_in(set: Set, s: &[u8]) -> bool
     true
 }
 
-// The two texts are equal.
+// The two texts are equal. References of one list mostly begin alike, so that the last bytes are looked at first.
 pub fn equal(a: &[u8], b: &[u8]) -> bool
     ensures { λ r. ⌜ r ≡ same (now (a .entry)) (now (b .entry)) ⌝ }
 {
     if a.len() != b.len() {
         return false;
     }
-    let mut i = 0;
-    while i < a.len() {
-        if a[i] != b[i] {
+    let mut left = a.len();
+    while 0 < left {
+        let last = left - 1;
+        if a[last] != b[last] {
             return false;
         }
-        i += 1;
+        left = last;
     }
     true
 }

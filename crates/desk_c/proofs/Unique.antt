@@ -13,6 +13,7 @@ use Rattle.desk_c.specs.Endings.{Answered, AnsweredLeaving}
 use Rattle.rewriting.specs.Records.{respellOutcome, respelledStation, respellHeaderOutcome, respelledHeader, changeOutcome, changedRecord}
 use Rattle.desk_c.specs.Records.{tenthsStated, heightStated}
 use Rattle.desk_c.specs.Promises.{StationCoded, HeaderCoded, StationRespelled, HeaderRespelled, RecordChanged, PowerChanged, AzimuthChanged, ElevationChanged, HeightChanged, GroundChanged, FilingJudged, FilingReplaced, FieldLocated, RecordLineOut, LineRecordIn}
+use Rattle.desk_c.specs.Rules.{RulesNumbered}
 
 -- One outcome has one number and one code,
 pub one-answer : (o : Outcome) (a b c d : ℕ) → Answered o a c → Answered o b d → (a ≡ b) × (c ≡ d)
@@ -84,3 +85,7 @@ one-line-out r before a b c d m n x y p q = (p .0 .0 ∙ sym (q .0 .0), p .0 .1 
 -- and `desk_list_in` one answer, one code and one content of the record.
 pub one-line-in : (t before : List ℕ) (a b c d : ℕ) (x y : List ℕ) → LineRecordIn t before a x c → LineRecordIn t before b y d → (a ≡ b) × (c ≡ d) × (x ≡ y)
 one-line-in t before a b c d x y p q = (p .0 .0 ∙ sym (q .0 .0), p .0 .1 ∙ sym (q .0 .1), p .1 ∙ sym (q .1))
+
+-- `desk_rules` has one answer.
+pub one-rules : (a b : ℕ) → RulesNumbered a → RulesNumbered b → a ≡ b
+one-rules a b p q = p ∙ sym q

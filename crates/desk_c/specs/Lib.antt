@@ -2,3 +2,4 @@ pub mod Endings
 pub mod Records
 pub mod Reasons
 pub mod Promises
+pub mod Rules

@@ -4,3 +4,4 @@ pub mod filings;
 pub mod listing;
 pub mod reasons;
 pub mod records;
+pub mod rules;

@@ -1,3 +1,5 @@
 pub mod Samples
 pub mod Figures
 pub mod Worked
+pub mod Typed
+pub mod Days

@@ -19,8 +19,8 @@ const STATE: &str = "\
 One thread; every buffer is lent, stays in memory and was used before, so caches are warm.
 Records: 64 different stations in turn; respelling writes into one buffer of 219 bytes, listing
 into one of 249. Lines: those of the same stations in turn, filed into one buffer of 219 bytes.
-Judging: files whose 13X share their first nine bytes and all differ, so that no search for a
-twin ends early; two files in turn, one sheet.
+Judging: files whose 13X share their first nine bytes, or where it is said their last six, and
+all differ, so that no search for a twin ends early; two files in turn, one sheet.
 Replacing: one file and its own sheet, changed by every call. One row: each station in turn gets
 a 13X that no other has. n rows: all stations share one 13X; number 1 leaves it and comes back to
 it by turns.
@@ -59,13 +59,24 @@ fn main() {
     for Size { n, replace_all, .. } in &sizes {
         grown(&format!("replace, n rows, n = {n}"), *replace_all, small.replace_all);
     }
+    println!("13X that share their last six bytes");
+    for n in [50, 250] {
+        row(&format!("  judge, n = {n}"), judge(n, samples::far_reference));
+        row(&format!("  replace, one row, n = {n}"), replace_one(n, samples::far_reference));
+    }
     println!("judge : replace at n = 250, verified alone");
     println!("  one row written {:30.1}", full.judge.verified / full.replace_one.verified);
     println!("  250 rows written {:29.1}", full.judge.verified / full.replace_all.verified);
 }
 
 fn measured(n: usize) -> Size {
-    Size { n, judge: judge(n), replace_one: replace_one(n), replace_all: replace_all(n) }
+    let near = samples::near_reference;
+    Size {
+        n,
+        judge: judge(n, near),
+        replace_one: replace_one(n, near),
+        replace_all: replace_all(n),
+    }
 }
 
 fn row(name: &str, times: Times) {
@@ -163,8 +174,8 @@ fn list_in() -> Times {
     )
 }
 
-fn judge(n: usize) -> Times {
-    let file_from = |first| samples::file(n, |index| samples::near_reference(first + index));
+fn judge(n: usize, reference: fn(usize) -> [u8; 15]) -> Times {
+    let file_from = |first| samples::file(n, |index| reference(first + index));
     let files = [file_from(0), file_from(300)];
     let (mut our_sheet, mut their_sheet) = (vec![0; sheet_length(n)], vec![0; sheet_length(n)]);
     let mut ours = files.iter().cycle();
@@ -184,12 +195,12 @@ fn judge(n: usize) -> Times {
 }
 
 /// Each station in turn gets a 13X of its own.
-fn replace_one(n: usize) -> Times {
+fn replace_one(n: usize, reference: fn(usize) -> [u8; 15]) -> Times {
     let samples = samples::stations();
-    let file = samples::file(n, samples::near_reference);
+    let file = samples::file(n, reference);
     let record = |step: usize| {
         let other = if step < n { 300 } else { 0 };
-        let reference = samples::near_reference(step % n + other);
+        let reference = reference(step % n + other);
         (step % n + 1, samples::referenced(&samples[step % samples::STATIONS], reference))
     };
     replacements(file, (0..2 * n).map(record).collect(), 1)

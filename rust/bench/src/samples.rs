@@ -36,6 +36,16 @@ pub fn near_reference(index: usize) -> [u8; 15] {
     reference
 }
 
+/// A 13X that is like all others in its last six bytes and like none of them before.
+pub fn far_reference(index: usize) -> [u8; 15] {
+    let letters = b"ABCDEFGHIJKLMNOPQRSTUVWXYZ";
+    let mut reference = *b"AUT0000AB01A001";
+    reference[3..7].copy_from_slice(format!("{:04}", index % 10_000).as_bytes());
+    reference[7] = letters[index / 26 % 26];
+    reference[8] = letters[index % 26];
+    reference
+}
+
 /// A file of stations whose 13X are those that `reference` gives for their indices.
 pub fn file(count: usize, reference: impl Fn(usize) -> [u8; 15]) -> Vec<u8> {
     let samples = stations();

@@ -36,6 +36,17 @@ pub const fn sheet_length(stations: usize) -> usize {
     2 * stations + 8
 }
 
+/// The number of the rules that records are judged by, counted up by each change of a rule. Keep it
+/// beside a stored sheet, and judge the file again where it is another.
+///
+/// ```
+/// let kept = 1; // judged when 30 February was taken
+/// assert!(desk::rules() > kept);
+/// ```
+pub fn rules() -> u32 {
+    raw::rules()
+}
+
 /// Judges a file and fills its sheet. Refusals: 1, 2, 3.
 ///
 /// ```

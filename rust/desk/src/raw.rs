@@ -116,6 +116,13 @@ extern "C" {
         length: *mut usize,
         most: *mut usize,
     ) -> u8;
+    fn desk_rules() -> u32;
+}
+
+/// `desk_rules`: the number of the rules.
+pub fn rules() -> u32 {
+    // SAFETY: the call takes nothing.
+    unsafe { desk_rules() }
 }
 
 /// `desk_judge`: the refusal.

@@ -83,6 +83,9 @@ pub fn good_station(random: &mut Random, code: usize) -> Vec<u8> {
 
 /// A spelling of a station's field that mostly breaks its rule.
 pub fn bad_station(random: &mut Random, code: usize) -> Vec<u8> {
+    if matches!(code, 8 | 28 | 29) && random.one_in(2) {
+        return late_date(random);
+    }
     let misses: &[&str] = match code {
         1 | 24 => &[
             "00000.00000",
@@ -224,6 +227,9 @@ pub fn good_header(random: &mut Random, code: usize, count: i64) -> Vec<u8> {
 
 /// A spelling of a header's field that mostly breaks its rule.
 pub fn bad_header(random: &mut Random, code: usize) -> Vec<u8> {
+    if code == 10 && random.one_in(2) {
+        return late_date(random);
+    }
     let misses: &[&str] = match code {
         1 => &["  ", "1 ", "-1", "+1", "x1", "1."],
         3 => &["0", "o", " ", "Q"],
@@ -341,10 +347,28 @@ fn height(random: &mut Random, value: i64) -> Vec<u8> {
     format!("{:>4}", format!("{sign}{text}")).into_bytes()
 }
 
+/// A day that there is: up to the 28th, the last of a month, or 29 February.
 fn date(random: &mut Random) -> Vec<u8> {
     let year = random.within(1901, 9999);
     let year = random.pick(&[1901, 9999, 2000, 2024, year]);
-    format!("{:02}{:02}{year}", random.within(1, 31), random.within(1, 12)).into_bytes()
+    let month = random.within(1, 12);
+    match random.below(4) {
+        0 => format!("2902{}", random.pick(&[1904, 2000, 2024, 2400, 9996])),
+        1 => format!(
+            "{}{month:02}{year}",
+            [31, 28, 31, 30, 31, 30, 31, 31, 30, 31, 30, 31][month as usize - 1]
+        ),
+        _ => format!("{:02}{month:02}{year}", random.within(1, 28)),
+    }
+    .into_bytes()
+}
+
+/// A day near the end of a month that has not 31, which there mostly is not.
+fn late_date(random: &mut Random) -> Vec<u8> {
+    let any = random.within(1901, 9999);
+    let year = random.pick(&[1901, 1904, 2000, 2023, 2024, 2100, 2200, 2400, 9999, any, any]);
+    let month = random.pick(&[2, 2, 2, 4, 6, 9, 11]);
+    format!("{:02}{month:02}{year}", random.within(28, 32)).into_bytes()
 }
 
 /// 4C: each number behind zeros or spaces.

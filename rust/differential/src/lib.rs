@@ -40,6 +40,7 @@ const RUNS_PER_POOL: usize = 100;
 ///
 /// Where the library and the peer part, with the call and its input.
 pub fn run(count: usize) -> Tally {
+    assert_eq!(desk::rules(), peer::RULES, "the number of the rules");
     let mut comparison = calls::Comparison::default();
     let mut random = random::Random::new(SEED);
     sweeps::all(&mut comparison, &mut random);

@@ -106,12 +106,17 @@ fn every_word(comparison: &mut Comparison, station: &Record, code: usize, alphab
     }
 }
 
-/// Every pair of digits as day and as month, and every year, in a station and a header.
+/// Every pair of digits as day and as month, every year with its last day and with 29 February, and the ends of all months of
+/// four years, in a station and a header.
 fn every_date(comparison: &mut Comparison, station: &Record, header: &Record) {
     let days = (0..100).map(|day| format!("{day:02}012024"));
     let months = (0..100).map(|month| format!("01{month:02}2024"));
     let years = (0..10_000).map(|year| format!("3112{year:04}"));
-    for date in days.chain(months).chain(years) {
+    let leap_days = (0..10_000).map(|year| format!("2902{year:04}"));
+    let ends = [2000, 2023, 2024, 2100].into_iter().flat_map(|year| {
+        (1..=12).flat_map(move |month| (27..=32).map(move |day| format!("{day}{month:02}{year}")))
+    });
+    for date in days.chain(months).chain(years).chain(leap_days).chain(ends) {
         let mut record = *station;
         records::put(&mut record, &STATION_FIELDS, 8, date.as_bytes());
         comparison.rewrite(&RESPELL_STATION, &record, &[0; 219]);

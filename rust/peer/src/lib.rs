@@ -1,4 +1,5 @@
-//! Filing files of document 01, written a second time from the paper alone.
+//! Filing files of document 01, and wishes 1 and 2 of 02, written a second time from the papers
+//! alone.
 //!
 //! A filing file is one header and up to 250 stations, each a record of 219 bytes. This crate
 //! reads and writes records, judges a file into a sheet, replaces a record, shows a field and
@@ -26,6 +27,9 @@ mod rules;
 mod spelling;
 mod station;
 mod values;
+
+/// The number of the rules followed here: 1 for document 01, 2 with wish 2 of 02.
+pub const RULES: u32 = 2;
 
 pub use columns::{Record, HEADER_FIELDS, RECORD_LENGTH, STATION_FIELDS};
 pub use file::{judge, locate, replace, sheet_length, show, MAX_FILE_LENGTH, MAX_STATIONS};

@@ -118,7 +118,7 @@ fn unsigned_decimal(number: &[u8], before: usize, after: usize) -> Option<i64> {
     Some(value * 10_i64.pow((after - fraction) as u32))
 }
 
-/// Date: eight digits, day, month and year in their ranges.
+/// Date: eight digits that say a real day of the years 1901 to 9999.
 #[inline(always)]
 pub(crate) fn date(text: &[u8]) -> Option<Date> {
     let date = Date {

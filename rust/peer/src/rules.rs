@@ -175,11 +175,22 @@ pub(crate) fn frequency(value: Frequency) -> bool {
     (1..=9_999_999_999).contains(&value.count)
 }
 
-/// Dates: day 01 to 31, month 01 to 12, year 1901 to 9999.
+/// Dates: real days of the Gregorian calendar, year 1901 to 9999.
 pub(crate) fn date(value: Date) -> bool {
-    (1..=31).contains(&value.day)
+    (1901..=9999).contains(&value.year)
         && (1..=12).contains(&value.month)
-        && (1901..=9999).contains(&value.year)
+        && (1..=last_day(value.month, value.year)).contains(&value.day)
+}
+
+/// The last day of a month; February has 29 days in leap years.
+fn last_day(month: u8, year: u16) -> u8 {
+    let century = year % 100 == 0;
+    let leap = year % if century { 400 } else { 4 } == 0;
+    match month {
+        2 => 28 + u8::from(leap),
+        4 | 6 | 9 | 11 => 30,
+        _ => 31,
+    }
 }
 
 /// 4C: at most 180 degrees in all to east and west, 90 to north and south.

@@ -183,6 +183,24 @@ fn dates() {
 }
 
 #[test]
+fn real_days() {
+    for taken in ["29021904", "29022000", "29022024", "28022023", "30042024", "31129999"] {
+        assert_eq!(code_with(8, taken), 0, "{taken}");
+    }
+    let februaries = ["29021901", "29022023", "29022100", "29021900", "30022024", "30022023"];
+    let others = ["31042024", "31062024", "31092024", "31112024"];
+    let outside = ["01002024", "01132024", "00012024", "32012024"];
+    for refused in [&februaries[..], &others, &outside].concat() {
+        for field in [8, 28, 29] {
+            assert_eq!(code_with(field, refused), field as u8, "{refused}");
+        }
+    }
+    let code = |date| Station { in_use: Some(date), ..read_with(8, "        ") }.code();
+    assert_eq!(code(Date { day: 29, month: 2, year: 2024 }), 0);
+    assert_eq!(code(Date { day: 29, month: 2, year: 2100 }), 8);
+}
+
+#[test]
 fn heights() {
     let height = |text| read_with(13, text).height;
     assert_eq!(height("    "), None);

@@ -15,22 +15,47 @@ returns : tie.Need-returns
 unfolding dateRule
 returns c = rw (← c .before .is-within .ensures, not-true (c .before .is-within .result) (c .if1 .taken))
 
-cast-is-within-2 : tie.Need-cast-is-within-2
-cast-is-within-2 c = search needs
-
 is-within-requires-2 : tie.Need-is-within-requires-2
 is-within-requires-2 c κs = search needs
 
 returns-2 : tie.Need-returns-2
 unfolding dateRule
-returns-2 c = let w = c .before .before .before .before in rw (← w .is-within .ensures, not-false (w .is-within .result) (c .before .before .before .if1 .left), ← c .before .is-within2 .ensures, not-true (c .before .is-within2 .result) (c .if2 .taken))
+returns-2 c =
+    let y = c .before in
+    let m = y .before .before in
+    rw (
+      ← m .is-within .ensures,
+      not-false (m .is-within .result) (y .before .if1 .left),
+      ← y .is-within2 .ensures,
+      not-true (y .is-within2 .result) (c .if2 .taken),
+    )
+
+days-in-requires : tie.Need-days-in-requires
+days-in-requires c κs = search needs
+
+cast-is-within-2 : tie.Need-cast-is-within-2
+cast-is-within-2 c = search needs
+
+cast-is-within-3 : tie.Need-cast-is-within-3
+cast-is-within-3 c = search needs
 
 is-within-requires-3 : tie.Need-is-within-requires-3
 is-within-requires-3 c κs = search needs
 
 returns-3 : tie.Need-returns-3
 unfolding dateRule
-returns-3 c = let w = c .before .before .before .before .before in rw (← w .is-within .ensures, not-false (w .is-within .result) (c .before .before .before .before .if1 .left), ← c .before .before .is-within2 .ensures, not-false (c .before .before .is-within2 .result) (c .before .if2 .left)) (c .is-within3 .ensures)
+returns-3 c =
+    let d = c .before .before in
+    let y = d .before .before in
+    let m = y .before .before in
+    rw (
+      ← m .is-within .ensures,
+      not-false (m .is-within .result) (y .before .if1 .left),
+      ← y .is-within2 .ensures,
+      not-false (y .is-within2 .result) (d .before .if2 .left),
+      ← d .days-in .ensures,
+    )
+    (c .is-within3 .ensures)
 
 pub is-date-spec : {M : Type 1} → statement M
 is-date-spec =
@@ -39,8 +64,10 @@ is-date-spec =
     cast-is-within
     is-within-requires
     returns
-    cast-is-within-2
     is-within-requires-2
     returns-2
+    days-in-requires
+    cast-is-within-2
+    cast-is-within-3
     is-within-requires-3
     returns-3)

@@ -1,0 +1,240 @@
+-- Document 01, "Values and the one spelling": typed stations. Station S read, written and read again, with each rule of typed stations broken
+-- once, with a value set, and the empty station written; computed from the definitions.
+use Prim.Native.Nat.{ℕ, _-_}
+use Prim.Native.String.{String}
+use mathlib.Core.Path.{_≡_, refl}
+use mathlib.Core.List.{List, [], _∷_, map}
+use lib.IntN.{pos, negℤ}
+use lib.ListN.{set, replicate}
+use Rattle.columns.specs.Sets.{among, isHex, isNarrow, isText, isName}
+use Rattle.columns.specs.Texts.{skip, trimmed, every, howMany, each, byteGood, same, oneOf}
+use Rattle.columns.specs.Numbers.{leading, numberFrom, wholeDigits, wholeOf, unsigned, signedOf, spellDigits, spellSigned}
+use Rattle.columns.specs.Decimals.{fractionOf, magnitudeOf, decimalOf, spellMagnitude, spellDecimal}
+use Rattle.columns.specs.Dates.{dateRule, dateIn, dateOf, dayGood, dayOf, dayFits, spellDate, spellDay}
+use Rattle.columns.specs.declared.dates.Day.{Day}
+use Rattle.columns.specs.declared.dates.Day.the-variants as day
+use Rattle.fields.specs.Tenths.{tenthsGood, tenthsOf, tenthsFit, spellTenths}
+use Rattle.fields.specs.Frequencies.{amountGood, unitGood, unitOf, frequencyOf, frequencyFits, unitLetter, spellAmount, spellUnit}
+use Rattle.fields.specs.Distances.{radiusOf, groundOf, heightGood, heightOf, radiusFits, groundFits, heightFits, spellRadius, spellGround, spellHeight}
+use Rattle.fields.specs.Positions.{arcSeconds, arcGood, arcOf, positionGood, positionOf, positionFits, spellArc, spellPosition}
+use Rattle.fields.specs.Emission.{bandwidthGood, detailGood, emissionGood}
+use Rattle.fields.specs.Remarks.{cellGood, installationGood, remarksGood}
+use Rattle.fields.specs.Codes.{isCategory, classGood, serviceGood, usersGood, isCarrier, nameGood, countryGood, isBasis, polarisationGood, antennaGood, isStatus, referenceGood}
+use Rattle.fields.specs.declared.frequencies.Frequency.{Frequency}
+use Rattle.fields.specs.declared.frequencies.Frequency.the-variants as frequency
+use Rattle.fields.specs.declared.frequencies.Hertz.the-variants as hertz
+use Rattle.fields.specs.declared.tenths.Tenths.{Tenths}
+use Rattle.fields.specs.declared.tenths.Tenths.the-variants as tenths
+use Rattle.fields.specs.declared.distances.Kilometres.{Kilometres}
+use Rattle.fields.specs.declared.distances.Height.the-variants as height
+use Rattle.fields.specs.declared.positions.Position.{Position}
+use Rattle.filing.specs.Rules.{firstBroken}
+use Rattle.filing.specs.Outcomes.{refusal, codeWith, ifDone, judged}
+use Rattle.filing.specs.declared.Outcome.{Outcome}
+use Rattle.station.specs.Places.{fieldsOf}
+use Rattle.station.specs.Rules.{fieldRules, channelFields, siteFields, emissionFields, antennaFields, filingFields, channelRules, siteRules, emissionRules, antennaRules, filingRules, typedRules}
+use Rattle.station.specs.Between.{mobile, roundAntenna, firstBetween, lastBetween, betweenRules}
+use Rattle.station.specs.Values.{stationOf, emptyStation}
+use Rattle.station.specs.Spelling.{channelPieces, sitePieces, emissionPieces, antennaPieces, filingPieces, stationPieces, spellStation}
+use Rattle.station.specs.Codes.{valueOf, stationCode, typedCode}
+use Rattle.station.specs.Calls.{readOutcome, readStation, writeOutcome, writtenStation, setOutcome, setStation}
+use Rattle.station.specs.Setting.{withSite, withAntenna, withPower, withAzimuth, withElevation, withHeight, withGround}
+use Rattle.station.specs.declared.Station.{Station}
+use Rattle.figures.specs.Samples.{recordOf, stationS}
+use Rattle.figures.specs.Worked.{spelledS}
+
+-- A text in field number k of a record's texts.
+abbrev pub put : ℕ → String → List String → List String
+put k t fields = set fields (k - 1) t
+
+-- The typed station that texts say, whether or not they keep their rules: text and codes are kept as their bytes.
+abbrev pub said : List String → Station
+said fields = valueOf (recordOf fields)
+
+-- Station S, typed.
+abbrev pub typedS : Station
+typedS = said stationS
+
+-- Station S with another text in field number k, typed.
+abbrev pub saidWith : ℕ → String → Station
+saidWith k t = said (put k t stationS)
+
+-- Station S with a value changed that no text says: 1A,
+abbrev pub withTransmit : Frequency → Station
+withTransmit v =
+    let s = typedS in
+    record {
+      channel = record {
+        transmit = v;
+        category = s .channel .category;
+        class = s .channel .class;
+        service = s .channel .service;
+        users = s .channel .users;
+        carrier = s .channel .carrier;
+      };
+      site = s .site;
+      emission = s .emission;
+      antenna = s .antenna;
+      filing = s .filing;
+    }
+
+-- 2C, 4C or 4D,
+abbrev pub sited : Day → Position → Kilometres → Station
+sited started position radius =
+    let s = typedS .site in
+    withSite
+    typedS
+    (record {
+      started = started;
+      name = s .name;
+      country = s .country;
+      position = position;
+      radius = radius;
+      height = s .height;
+    })
+
+-- 9G,
+abbrev pub withGain : Tenths → Station
+withGain v =
+    let s = typedS .antenna in
+    withAntenna
+    typedS
+    (record {
+      polarisation = s .polarisation;
+      gain = v;
+      ground = s .ground;
+      horizontal = s .horizontal;
+      vertical = s .vertical;
+    })
+
+-- 1Y, 2W or 2Z.
+abbrev pub filed : Frequency → Day → Day → Station
+filed receive requested coordinated =
+    let s = typedS in
+    record {
+      channel = s .channel;
+      site = s .site;
+      emission = s .emission;
+      antenna = s .antenna;
+      filing = record {
+        receive = receive;
+        remarks = s .filing .remarks;
+        status = s .filing .status;
+        requested = requested;
+        coordinated = coordinated;
+        reference = s .filing .reference;
+      };
+    }
+
+-- A typed date, whether or not there is such a day.
+abbrev pub dated : ℕ → ℕ → ℕ → Day
+dated d m y = day.Filled (record { day = d; month = m; year = y })
+
+-- Station S with each rule broken once that a typed station can break, in their order: all but 2 and 25.
+abbrev pub broken : List Station
+broken =
+    withTransmit (frequency.Filled 0 hertz.Mega) ∷
+    saidWith 3 "9" ∷
+    saidWith 4 "XX" ∷
+    saidWith 5 "XX" ∷
+    saidWith 6 "J " ∷
+    saidWith 7 "2" ∷
+    sited (dated 1 1 1900) (typedS .site .position) (typedS .site .radius) ∷
+    saidWith 9 "xxxxxxxxxxxxxxxxxxxx" ∷
+    saidWith 10 "A T" ∷
+    sited (typedS .site .started) (record { east = pos 648001; north = pos 0 }) (typedS .site .radius) ∷
+    sited (typedS .site .started) (typedS .site .position) (record { 0 = 100000 }) ∷
+    withHeight typedS (height.Filled (record { 0 = negℤ (pos 1000) })) ∷
+    saidWith 14 "0M00G7W  " ∷
+    withPower typedS (tenths.Filled (pos 10000)) ∷
+    saidWith 16 "X" ∷
+    withAzimuth typedS (tenths.Filled (pos 3600)) ∷
+    withElevation typedS (tenths.Filled (negℤ (pos 901))) ∷
+    saidWith 19 " H" ∷
+    withGain (tenths.Filled (pos 1000)) ∷
+    withGround typedS (record { 0 = negℤ (pos 1) }) ∷
+    saidWith 22 "000nd00" ∷
+    saidWith 23 "000ND0 " ∷
+    filed (frequency.Filled 10000000000 hertz.Giga) (typedS .filing .requested) (typedS .filing .coordinated) ∷
+    saidWith 26 "99999999999999999999999999999999999999999999999999" ∷
+    saidWith 27 "X" ∷
+    filed (typedS .filing .receive) (dated 0 1 2000) (typedS .filing .coordinated) ∷
+    filed (typedS .filing .receive) (typedS .filing .requested) (dated 1 13 2000) ∷
+    saidWith 30 "AUT2311AB01A00x" ∷
+    said (put 1 "           " (put 15 "      " (put 24 "           " stationS))) ∷
+    saidWith 1 "           " ∷
+    saidWith 12 "    1" ∷
+    saidWith 4 "ML" ∷
+    said (put 17 "     " (put 22 "010ND00" stationS)) ∷
+    said (put 18 "     " (put 23 "010ND00" stationS)) ∷
+    said (put 4 "ML" (put 17 "     " stationS)) ∷
+    saidWith 20 "    " ∷
+    saidWith 4 "FL" ∷
+    []
+
+-- Their codes.
+abbrev pub brokenCodes : List ℕ
+brokenCodes =
+    1 ∷ 3 ∷ 4 ∷ 5 ∷ 6 ∷ 7 ∷ 8 ∷ 9 ∷ 10 ∷ 11 ∷ 12 ∷ 13 ∷ 14 ∷ 15 ∷ 16 ∷ 17 ∷ 18 ∷ 19 ∷ 20 ∷ 21 ∷ 22 ∷ 23 ∷ 24 ∷
+    26 ∷ 27 ∷ 28 ∷ 29 ∷ 30 ∷ 31 ∷ 32 ∷ 33 ∷ 34 ∷ 35 ∷ 36 ∷ 37 ∷ 38 ∷ 39 ∷ []
+
+-- How a call ended: its refusal's number and the code.
+abbrev pub ended : Outcome → List ℕ
+ended o = refusal o ∷ codeWith o ∷ []
+
+abbrev pub done : List ℕ
+done = 0 ∷ 0 ∷ []
+
+-- A buffer of dashes.
+abbrev pub dashes : ℕ → List ℕ
+dashes n = replicate n 45
+
+-- A changed station S is taken and handed back,
+abbrev pub Taken : Station → Type 0
+Taken changed = (ended (setOutcome changed) ≡ done) × (setStation typedS changed ≡ changed)
+
+-- or refused with a code, and station S is handed back.
+abbrev pub Refused : Station → ℕ → Type 0
+Refused changed c = (ended (setOutcome changed) ≡ (9 ∷ c ∷ [])) × (setStation typedS changed ≡ typedS)
+
+-- What the definitions make of these.
+pub record TypedWorked : Type 0 where
+  -- Station S is read, and written in the one spelling; that is read as the same station, and written as it stands.
+  pub read-ends : ended (readOutcome (recordOf stationS)) ≡ done
+  pub written-ends : ended (writeOutcome (readStation (recordOf stationS)) (dashes 219)) ≡ done
+  pub written : writtenStation (readStation (recordOf stationS)) (dashes 219) ≡ recordOf spelledS
+  pub read-again : ended (readOutcome (recordOf spelledS)) ≡ done
+  pub written-again : writtenStation (readStation (recordOf spelledS)) (dashes 219) ≡ recordOf spelledS
+  -- Each rule that a typed station can break.
+  pub codes : map typedCode broken ≡ brokenCodes
+  -- Values set: a power of 35.0, an azimuth of 360.0, no elevation, a height of -999 and one above ground of -1.
+  pub power : Taken (withPower typedS (tenths.Filled (pos 350)))
+  pub azimuth : Refused (withAzimuth typedS (tenths.Filled (pos 3600))) 17
+  pub elevation : Taken (withElevation typedS tenths.Blank)
+  pub sea-height : Taken (withHeight typedS (height.Filled (record { 0 = negℤ (pos 999) })))
+  pub ground : Refused (withGround typedS (record { 0 = negℤ (pos 1) })) 21
+  -- The empty station cannot be written: a short buffer is refused first, and on either refusal the buffer is as it was.
+  pub short-ends : ended (writeOutcome emptyStation (dashes 218)) ≡ (7 ∷ 0 ∷ [])
+  pub short-kept : writtenStation emptyStation (dashes 218) ≡ dashes 218
+  pub empty-ends : ended (writeOutcome emptyStation (dashes 219)) ≡ (9 ∷ 6 ∷ [])
+  pub empty-kept : writtenStation emptyStation (dashes 219) ≡ dashes 219
+
+pub typed-worked : TypedWorked
+unfolding among isHex isNarrow isText isName skip trimmed every howMany each byteGood same oneOf leading numberFrom wholeDigits wholeOf unsigned signedOf spellDigits spellSigned fractionOf magnitudeOf decimalOf spellMagnitude spellDecimal dateRule dateIn dateOf dayGood dayOf dayFits spellDate spellDay tenthsGood tenthsOf tenthsFit spellTenths amountGood unitGood unitOf frequencyOf frequencyFits unitLetter spellAmount spellUnit radiusOf groundOf heightGood heightOf radiusFits groundFits heightFits spellRadius spellGround spellHeight arcSeconds arcGood arcOf positionGood positionOf positionFits spellArc spellPosition bandwidthGood detailGood emissionGood cellGood installationGood remarksGood isCategory classGood serviceGood usersGood isCarrier nameGood countryGood isBasis polarisationGood antennaGood isStatus referenceGood firstBroken refusal codeWith ifDone judged fieldsOf fieldRules channelFields siteFields emissionFields antennaFields filingFields channelRules siteRules emissionRules antennaRules filingRules typedRules mobile roundAntenna firstBetween lastBetween betweenRules stationOf emptyStation channelPieces sitePieces emissionPieces antennaPieces filingPieces stationPieces spellStation valueOf stationCode typedCode readOutcome readStation writeOutcome writtenStation setOutcome setStation
+typed-worked = record {
+  read-ends = refl;
+  written-ends = refl;
+  written = refl;
+  read-again = refl;
+  written-again = refl;
+  codes = refl;
+  power = (refl, refl);
+  azimuth = (refl, refl);
+  elevation = (refl, refl);
+  sea-height = (refl, refl);
+  ground = (refl, refl);
+  short-ends = refl;
+  short-kept = refl;
+  empty-ends = refl;
+  empty-kept = refl;
+}
