@@ -14,4 +14,5 @@ pub mod SerialColumn
 pub mod SignedLaws
 pub mod TenthsLaws
 pub mod TrimLaws
+pub mod TripLaws
 pub mod Writing

@@ -1,5 +1,5 @@
 -- A table of fields, and what it gives: places, rules, values and spelling. Stations and headers have one each.
-use Prim.Native.Nat.{ℕ, zero, suc, _-_}
+use Prim.Native.Nat.{ℕ, zero, suc}
 use Prim.Native.String.{String}
 use mathlib.Core.Bool.{Bool}
 use mathlib.Core.List.{List, [], _∷_}

@@ -1,19 +1,19 @@
 -- A station and its record: what is written is read back, and what is read can be written.
 -- Assumes nothing.
 use mathlib.Core.Path.{_≡_, refl, sym, ap, _∙_}
-use mathlib.Core.List.{List, [], _++_}
+use mathlib.Core.List.{List, _++_}
 use mathlib.Core.Bool.{true}
 use Prim.Native.Nat.{ℕ, _-_}
-use native.Mathlib.Omega.{arith}
 use lib.ListN.{length, getD}
 use Rattle.fields.specs.Table.{stationTable}
-use Rattle.fields.proofs.RowLaws.{Beside, table-wide, table-kept, table-back, table-read}
+use Rattle.fields.proofs.RowLaws.{Beside}
+use Rattle.fields.proofs.TripLaws.{spelt-kept, spelt-back}
+use Rattle.fields.proofs.TripLaws as trip
 use Rattle.filing.specs.Fields.{recordLength}
 use Rattle.filing.specs.Rules.{All}
 use Rattle.filing.proofs.RuleLaws.{all-hold, none-broken, rule, all-append, all-front, all-back}
-use Rattle.filing.proofs.FieldLaws.{Wide, cut-joined, cut-wide}
 use Rattle.station.specs.Members.{valuesOf, stationFrom}
-use Rattle.station.specs.Places.{stationPlaces, station-tiles, fieldsOf}
+use Rattle.station.specs.Places.{station-tiles, fieldsOf}
 use Rattle.station.specs.Rules.{fieldRules, typedRules}
 use Rattle.station.specs.Between.{betweenRules}
 use Rattle.station.specs.Values.{stationOf}
@@ -32,56 +32,43 @@ module _ (s : Station) (h : All (typedRules s)) where
   unfolding stationPieces typedRules
   beside = (refl, ((refl, holds 1), (refl, ((refl, holds 24), tt))))
 
-  -- each piece has its field's width,
-  pieces-wide : Wide stationPlaces (stationPieces s)
-  unfolding stationPieces typedRules
-  pieces-wide = table-wide stationTable (valuesOf s) refl h
+  -- its record keeps the rules of fields,
+  fields-kept : All (fieldRules (fieldsOf (spellStation s)))
+  unfolding fieldRules fieldsOf spellStation stationPieces typedRules
+  fields-kept = spelt-kept stationTable refl station-tiles (valuesOf s) h beside
 
-  -- keeps its field's rule,
-  pieces-kept : All (fieldRules (stationPieces s))
-  unfolding fieldRules stationPieces typedRules
-  pieces-kept = table-kept 0 stationTable (stationPieces s) (valuesOf s) refl refl h beside
-
-  -- and says its value
-  pieces-back : stationOf (stationPieces s) ≡ s
-  unfolding stationPieces typedRules stationOf
-  pieces-back = ap stationFrom (table-back 0 stationTable (stationPieces s) (valuesOf s) refl refl h beside)
-
-  -- the fields of the record are the pieces
-  fields-spelt : fieldsOf (spellStation s) ≡ stationPieces s
-  unfolding fieldsOf spellStation
-  fields-spelt = cut-joined [] 1 stationPlaces (stationPieces s) refl station-tiles pieces-wide
-
--- A record's fields that keep their rules are read as values that keep theirs.
-fits-read : (f : List (List ℕ)) → Wide stationPlaces f → All (fieldRules f) → All (typedRules (stationOf f))
-unfolding fieldRules typedRules stationOf
-fits-read f w h = table-read 0 stationTable f refl w h
+  -- and says the station
+  said-back : valueOf (spellStation s) ≡ s
+  unfolding valueOf stationOf fieldsOf spellStation stationPieces typedRules
+  said-back = ap stationFrom (spelt-back stationTable refl station-tiles (valuesOf s) h beside)
 
 -- A station that breaks no rule is written as a record that breaks none,
 pub write-keeps : (s : Station) → typedCode s ≡ 0 → stationCode (spellStation s) ≡ 0
-unfolding typedCode stationCode valueOf
+unfolding typedCode stationCode
 write-keeps s e =
     let a : All (typedRules s ++ betweenRules s) = all-hold 0 (typedRules s ++ betweenRules s) e in
     let h : All (typedRules s) = all-front (typedRules s) (betweenRules s) a in
-    rw (fields-spelt s h, pieces-back s h)
-    (none-broken 1 (fieldRules (stationPieces s) ++ betweenRules s) (all-append (fieldRules (stationPieces s)) (betweenRules s) (pieces-kept s h) (all-back (typedRules s) (betweenRules s) a)))
+    let f = fieldRules (fieldsOf (spellStation s)) in
+    rw (said-back s h) (none-broken 1 (f ++ betweenRules s) (all-append f (betweenRules s) (fields-kept s h) (all-back (typedRules s) (betweenRules s) a)))
 
 -- and is read back from it.
 pub read-back : (s : Station) → typedCode s ≡ 0 → valueOf (spellStation s) ≡ s
-unfolding typedCode valueOf
-read-back s e =
-    let h : All (typedRules s) = all-front (typedRules s) (betweenRules s) (all-hold 0 (typedRules s ++ betweenRules s) e) in
-    rw (fields-spelt s h) (pieces-back s h)
+unfolding typedCode
+read-back s e = said-back s (all-front (typedRules s) (betweenRules s) (all-hold 0 (typedRules s ++ betweenRules s) e))
 
--- A record that breaks no rule is read as a station that breaks none,
+-- A record's fields that keep their rules are read as values that keep theirs,
+values-fit : (r : List ℕ) → length r ≡ recordLength → All (fieldRules (fieldsOf r)) → All (typedRules (valueOf r))
+unfolding fieldRules fieldsOf typedRules valueOf stationOf
+values-fit = trip.read-fits stationTable refl station-tiles
+
+-- so that a record that breaks no rule is read as a station that breaks none,
 pub read-fits : (r : List ℕ) → length r ≡ recordLength → stationCode r ≡ 0 → typedCode (valueOf r) ≡ 0
-unfolding typedCode stationCode valueOf
+unfolding typedCode stationCode
 read-fits r n e =
-    let f = fieldsOf r in
-    let b = betweenRules (stationOf f) in
-    let a : All (fieldRules f ++ b) = all-hold 0 (fieldRules f ++ b) e in
-    let w : Wide stationPlaces f = unfold fieldsOf in cut-wide r n 1 stationPlaces (omega arith) station-tiles in
-    none-broken 1 (typedRules (stationOf f) ++ b) (all-append (typedRules (stationOf f)) b (fits-read f w (all-front (fieldRules f) b a)) (all-back (fieldRules f) b a))
+    let f = fieldRules (fieldsOf r) in
+    let b = betweenRules (valueOf r) in
+    let a : All (f ++ b) = all-hold 0 (f ++ b) e in
+    none-broken 1 (typedRules (valueOf r) ++ b) (all-append (typedRules (valueOf r)) b (values-fit r n (all-front f b a)) (all-back f b a))
 
 -- so that writing it and reading again gives it back,
 pub read-again : (r : List ℕ) → length r ≡ recordLength → stationCode r ≡ 0 → valueOf (spellStation (valueOf r)) ≡ valueOf r
