@@ -38,7 +38,7 @@ extern "C" {
 enum desk_refusal {
     DESK_DONE = 0,                       /* not refused */
     DESK_REFUSED_FILE_TOO_LONG = 1,      /* the file is longer than 54,969 bytes */
-    DESK_REFUSED_FILE_LENGTH = 2,        /* the file's length is zero or no multiple of 219 */
+    DESK_REFUSED_FILE_NOT_RECORDS = 2,        /* the file's length is zero or no multiple of 219 */
     DESK_REFUSED_SHEET_LENGTH = 3,       /* the lent sheet is not exactly 2n + 8 bytes */
     DESK_REFUSED_SHEET_TRAILER = 4,      /* the trailer lacks "2A", width 2 or distance 2n + 8 */
     DESK_REFUSED_NUMBER = 5,             /* the record number is above n (0 is the header) */

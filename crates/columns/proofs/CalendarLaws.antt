@@ -1,5 +1,4 @@
 -- The days of the months, as the code asks for them.
--- Assumes nothing.
 use mathlib.Core.Path.{_≡_}
 use mathlib.Core.Logic.{inl, inr}
 use mathlib.Core.Bool.{cond}

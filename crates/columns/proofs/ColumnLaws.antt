@@ -1,5 +1,4 @@
 -- Each kind of column reads back what it writes, and writes what it reads: four laws, one instance for each kind.
--- Assumes nothing.
 use mathlib.Core.Path.{_≡_, refl, sym, ap, _∙_}
 use mathlib.Core.Bool.{Bool, true, false, cond, not, _&&_, _||_, false≢true, and-true, or-true}
 use mathlib.Core.List.{List, [], _∷_, _++_}

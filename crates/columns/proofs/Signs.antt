@@ -1,5 +1,4 @@
 -- Numbers below zero, and their magnitudes, in 64 bits.
--- Assumes nothing.
 use mathlib.Core.Path.{_≡_, refl}
 use mathlib.Core.Bool.{true, false, false≢true, true≢false}
 use Prim.Native.Nat.{zero, suc, _+_, _^_, _<_, zero-le}

@@ -1,11 +1,11 @@
 // The desk: reads a filing file from standard input and prints its report.
 use files::lengths::MOST_BYTES;
 use intake::read_input;
-use report::reports::write_report;
+use printing::reports::write_report;
 ghost use mathlib.Core.Path.{_≡_};
 ghost use Prim.Native.Nat.{_+_, _*_};
 ghost use lib.ListN.{length};
-ghost use Rattle.filing.specs.Fields.{recordLength};
+ghost use Rattle.basics.specs.Fields.{recordLength};
 ghost use Rattle.files.specs.Files.{mostStations};
 
 // The bytes of the longest file and one more, so that a longer one is told from it.

@@ -2,8 +2,8 @@
 use mathlib.Core.Path.{_≡_, ap, subst, _∙_}
 use mathlib.Core.List.{List}
 use Prim.Native.Nat.{ℕ}
-use Rattle.filing.specs.Outcomes.{refusal, codeWith}
-use Rattle.filing.specs.declared.Outcome.{Outcome}
+use Rattle.basics.specs.Outcomes.{refusal, codeWith}
+use Rattle.basics.specs.declared.Outcome.{Outcome}
 use Rattle.station.specs.declared.Station.{Station}
 use Rattle.rewriting.specs.Promises.{RecordChanged}
 use Rattle.desk_c.specs.Endings.{Answered, AnsweredLeaving}

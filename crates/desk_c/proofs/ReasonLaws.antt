@@ -1,5 +1,4 @@
 -- What was found of a line, told in numbers.
--- Assumes nothing.
 use mathlib.Core.Path.{_≡_, refl}
 use mathlib.Core.Bool.{cond}
 use mathlib.Core.List.{List}

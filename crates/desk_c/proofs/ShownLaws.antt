@@ -1,5 +1,4 @@
 -- `desk_show`: where a field stands, and that what it locates is the very piece that `show` hands out.
--- Assumes nothing.
 use mathlib.Core.Path.{_≡_, refl, sym, ap, _∙_}
 use mathlib.Core.Bool.{true, false}
 use mathlib.Core.List.{List, [], _∷_, _++_}
@@ -8,13 +7,13 @@ use native.Mathlib.Omega.{arith}
 use lib.ListN.{length}
 use denote.Ref.{RefT, ptr, now}
 use borrow.Author.Tests.{eqb-true}
-use Rattle.filing.specs.Fields.{placeOf}
-use Rattle.filing.specs.Outcomes.{refusal, ifDone}
-use Rattle.filing.specs.declared.Place.{Place}
+use Rattle.basics.specs.Fields.{placeOf}
+use Rattle.basics.specs.Outcomes.{refusal, ifDone}
+use Rattle.basics.specs.declared.Place.{Place}
 use Rattle.files.specs.Files.{placesOf}
 use Rattle.files.specs.Calls.{fileTests, numberTest, fieldTest, showOutcome, shownOffset, shownLength}
 use Rattle.files.specs.Promises.{StandsAt, FieldShown}
-use Rattle.filing.proofs.RefusalLaws.{done, none-applies}
+use Rattle.basics.proofs.RefusalLaws.{done, none-applies}
 use Rattle.files.proofs.LengthLaws.{whole-records}
 use Rattle.files.proofs.PlaceLaws.{places-tile, place-inside}
 use Rattle.files.proofs.ShowLaws.{shown-there}

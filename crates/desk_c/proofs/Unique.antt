@@ -1,10 +1,9 @@
 -- The promises of the calls for C leave one answer, one code and one content of the lent bytes.
--- Assumes nothing.
 use mathlib.Core.Path.{_≡_, sym, _∙_}
 use mathlib.Core.List.{List}
 use Prim.Native.Nat.{ℕ}
 use lib.IntN.{ℤ}
-use Rattle.filing.specs.declared.Outcome.{Outcome}
+use Rattle.basics.specs.declared.Outcome.{Outcome}
 use Rattle.station.specs.Calls.{readOutcome}
 use Rattle.station.specs.Setting.{withPower, withAzimuth, withElevation, withHeight, withGround}
 use Rattle.station.specs.declared.Station.{Station}

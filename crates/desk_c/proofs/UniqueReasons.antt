@@ -1,5 +1,4 @@
 -- The promises of the calls for C on a refused line leave one answer and one content of the lent numbers.
--- Assumes nothing.
 use mathlib.Core.Path.{_≡_, sym, _∙_}
 use mathlib.Core.List.{List}
 use Prim.Native.Nat.{ℕ}

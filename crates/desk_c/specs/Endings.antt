@@ -2,8 +2,8 @@
 use Prim.Native.Nat.{ℕ}
 use mathlib.Core.Path.{_≡_}
 use mathlib.Core.List.{List}
-use Rattle.filing.specs.Outcomes.{refusal, codeWith}
-use Rattle.filing.specs.declared.Outcome.{Outcome}
+use Rattle.basics.specs.Outcomes.{refusal, codeWith}
+use Rattle.basics.specs.declared.Outcome.{Outcome}
 
 -- How a call ended, as numbers: the answer is the refusal's number, and the lent byte holds the code that comes with it.
 abbrev pub Answered : Outcome → ℕ → ℕ → Type 0

@@ -1,7 +1,7 @@
 // How a call ends: its outcome as the paper's numbers.
-use filing::Outcome;
-use filing::outcomes::code_with;
-use filing::outcomes::refusal_number;
+use basics::Outcome;
+use basics::outcomes::code_with;
+use basics::outcomes::refusal_number;
 ghost use Rattle.desk_c.specs.Endings.{Answered};
 
 // The code goes into the lent byte, and the refusal's number is the answer.

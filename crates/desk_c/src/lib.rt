@@ -1,7 +1,7 @@
 // The library for callers in C and Rust: functions on numbers and lent bytes, under names with the prefix `desk_`.
 mod endings;
-pub mod filings;
 pub mod listing;
 pub mod reasons;
 pub mod records;
 pub mod rules;
+pub mod sheets;

@@ -1,5 +1,4 @@
 -- The first long field of a line is found in its first bytes, as many as the longest line has.
--- Assumes nothing.
 use mathlib.Core.Path.{_≡_, refl, ap, _∙_}
 use mathlib.Core.Bool.{Bool, true, false, cond}
 use mathlib.Core.List.{List, [], _∷_}

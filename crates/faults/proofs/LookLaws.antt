@@ -1,5 +1,4 @@
 -- The fields of a line, looked at one after the other for one that is longer than its columns.
--- Assumes nothing.
 use mathlib.Core.Path.{_≡_, refl, sym, ap, _∙_}
 use mathlib.Core.List.{List, [], _∷_}
 use Prim.Native.Nat.{ℕ, suc, _+_, _-_, _≤_, _<_}
@@ -9,7 +8,7 @@ use native.Mathlib.Numerals.{add-one, sub-one}
 use lib.ListN.{length, getD, take, drop, drop-of-length-le}
 use lib.Seq.{drop-cons, length-take-le}
 use borrow.Author.Tests.{le-leb, lt-leb, lt-ltb}
-use Rattle.filing.specs.Fields.{placeOf}
+use Rattle.basics.specs.Fields.{placeOf}
 use Rattle.lists.specs.Lines.{before, behind, split}
 use Rattle.lists.proofs.FillLaws.{field-found}
 use Rattle.faults.specs.Faults.{noField, firstLonger}

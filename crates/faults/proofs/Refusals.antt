@@ -1,5 +1,4 @@
 -- What the calls tell of a line, and how the line is refused.
--- Assumes nothing.
 use mathlib.Core.Path.{_≡_, refl, sym, _∙_}
 use mathlib.Core.Bool.{Bool, true, false, not, cond, _&&_}
 use mathlib.Core.List.{List, [], _∷_}
@@ -8,9 +7,9 @@ use native.Mathlib.Omega.{arith}
 use lib.Dec.{leb, eqb}
 use lib.ListN.{length, getD}
 use borrow.Author.Tests.{leb-false, eqb-false, ne-eqb, lt-ltb}
-use Rattle.filing.specs.Fields.{at, placeOf}
-use Rattle.filing.specs.Outcomes.{refusal, firstRefusal}
-use Rattle.filing.specs.declared.Outcome.the-variants as outcome
+use Rattle.basics.specs.Fields.{at, placeOf}
+use Rattle.basics.specs.Outcomes.{refusal, firstRefusal}
+use Rattle.basics.specs.declared.Outcome.the-variants as outcome
 use Rattle.station.specs.Places.{stationPlaces}
 use Rattle.station.specs.Codes.{stationCode}
 use Rattle.lists.specs.Fields.{noneLonger}

@@ -1,5 +1,4 @@
 -- The promises of the calls on a refused line leave one answer.
--- Assumes nothing.
 use mathlib.Core.Path.{_≡_, sym, _∙_}
 use mathlib.Core.Bool.{Bool}
 use mathlib.Core.List.{List}

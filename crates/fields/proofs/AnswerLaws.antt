@@ -1,5 +1,4 @@
 -- What a test decides where its answer r is a rule's t.
--- Assumes nothing.
 use mathlib.Core.Path.{_≡_, sym, _∙_}
 use mathlib.Core.Bool.{Bool, true, false, not}
 use borrow.Author.Tests.{not-true, not-false}

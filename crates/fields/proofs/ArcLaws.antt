@@ -1,5 +1,4 @@
 -- One half of 4C over the columns of its degrees: what was read of it keeps its rule and says its value, and what is written is its spelling.
--- Assumes nothing.
 use mathlib.Core.Path.{_≡_, refl, sym, ap, _∙_}
 use mathlib.Core.Bool.{true, false, _&&_, _||_}
 use mathlib.Core.List.{List, [], _∷_, _++_, append-assoc, append-nil}

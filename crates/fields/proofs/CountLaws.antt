@@ -1,5 +1,4 @@
 -- Counting the bytes that pass a test, one at a time.
--- Assumes nothing.
 use mathlib.Core.Path.{_≡_}
 use mathlib.Core.Bool.{Bool, cond}
 use mathlib.Core.List.{List}

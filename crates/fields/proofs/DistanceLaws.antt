@@ -1,5 +1,4 @@
 -- The range of heights, and of the whole numbers that columns say.
--- Assumes nothing.
 use mathlib.Core.Path.{_≡_}
 use mathlib.Core.List.{List}
 use Prim.Native.Nat.{ℕ, suc, _^_, _<_}

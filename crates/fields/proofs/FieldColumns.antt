@@ -1,5 +1,4 @@
 -- The station's kinds of column: each reads back what it writes, and writes what it reads. One instance of the four laws for each.
--- Assumes nothing.
 use mathlib.Core.Path.{_≡_, refl, sym, ap, _∙_}
 use mathlib.Core.Bool.{Bool, true, false, cond, not, _&&_, _||_, false≢true, true≢false}
 use mathlib.Core.List.{List, [], _∷_, _++_}

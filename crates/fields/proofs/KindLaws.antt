@@ -1,5 +1,4 @@
 -- Each kind of field reads back what it writes and writes what it reads, where its columns are as many as it asks for.
--- Assumes nothing.
 use mathlib.Core.Path.{_≡_, refl, sym, ap, subst, _∙_}
 use mathlib.Core.Bool.{Bool, true, not, _&&_}
 use mathlib.Core.List.{List, [], _∷_}
@@ -14,7 +13,7 @@ use Rattle.columns.specs.Texts.{bytes, blank, trimmed, every, oneOf, sized}
 use Rattle.columns.specs.Decimals.{decimalWidth}
 use Rattle.columns.proofs.TextLaws.{and-split}
 use Rattle.columns.proofs.ColumnLaws.{Column, text-column, byte-column, whole-column, day-column, date-column, each-sized, same-sized, one-sized, text-sized, AllSized}
-use Rattle.filing.specs.Fields.{at}
+use Rattle.basics.specs.Fields.{at}
 use Rattle.fields.specs.Frequencies.{spellAmount, spellUnit, unitGood, frequencyOf, frequencyFits}
 use Rattle.fields.specs.Emission.{emissionGood}
 use Rattle.fields.specs.Remarks.{remarksGood}

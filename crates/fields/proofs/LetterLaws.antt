@@ -1,5 +1,4 @@
 -- A `match` on a byte decides as the letters of a text do: SetLaws, for the sets that are given by their letters.
--- Assumes nothing.
 use mathlib.Core.Path.{_≡_, refl, ap, _∙_}
 use mathlib.Core.Bool.{Bool, false, _||_}
 use mathlib.Core.List.{List, [], _∷_}

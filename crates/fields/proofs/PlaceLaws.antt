@@ -1,5 +1,4 @@
 -- A field whose every place has a rule of its own, taken apart into runs of one set, literals and single places, from place i on.
--- Assumes nothing.
 use mathlib.Core.Path.{_≡_, refl, sym, ap, _∙_}
 use mathlib.Core.Bool.{Bool, true, false, _&&_, and-assoc}
 use mathlib.Core.List.{List, [], _∷_, _++_}

@@ -1,5 +1,4 @@
 -- 4C reads back what it writes, and writes what it reads: one half over its width, its letters and its degrees, then both.
--- Assumes nothing.
 use mathlib.Core.Path.{_≡_, refl, sym, ap, _∙_}
 use mathlib.Core.Bool.{Bool, true, false, cond, not, _&&_, false≢true}
 use mathlib.Core.List.{List, [], _∷_, _++_}

@@ -1,5 +1,4 @@
 -- A table whose rows are as wide as their kinds ask: what is written of values that fit is read back, and what is read can be written.
--- Assumes nothing.
 use mathlib.Core.Path.{_≡_, sym, ap, subst, _∙_}
 use mathlib.Core.Bool.{Bool, true, _&&_}
 use mathlib.Core.List.{List, [], _∷_}
@@ -9,9 +8,9 @@ use native.Mathlib.Numerals.{add-one}
 use lib.ListN.{length, getD, drop}
 use lib.Seq.{getD-drop, drop-drop}
 use Rattle.columns.proofs.TextLaws.{and-split}
-use Rattle.filing.specs.Fields.{at}
-use Rattle.filing.specs.Rules.{All}
-use Rattle.filing.proofs.FieldLaws.{Wide}
+use Rattle.basics.specs.Fields.{at}
+use Rattle.basics.specs.Rules.{All}
+use Rattle.basics.proofs.FieldLaws.{Wide}
 use Rattle.fields.specs.Rows.{Row, meant, placesOf, rulesFrom, Values, valuesFrom, fitsOf, speltOf}
 use Rattle.fields.proofs.KindLaws.{Lawful, asWide, lawful}
 

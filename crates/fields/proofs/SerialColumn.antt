@@ -1,5 +1,4 @@
 -- Field 12, a whole number or blank, is a kind of column.
--- Assumes nothing.
 use mathlib.Core.Path.{_≡_, refl}
 use mathlib.Core.Bool.{true}
 use Prim.Native.Nat.{ℕ, _^_, _<_}

@@ -1,5 +1,4 @@
 -- Numbers with a sign that are handed on to the decimals, over the format.
--- Assumes nothing.
 use mathlib.Core.Path.{_≡_}
 use mathlib.Core.Bool.{Bool, true, cond, _&&_}
 use mathlib.Core.List.{List}

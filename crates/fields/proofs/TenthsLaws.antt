@@ -1,5 +1,4 @@
 -- Tenths that stand in their columns, over the format.
--- Assumes nothing.
 use mathlib.Core.Path.{_≡_}
 use mathlib.Core.Bool.{Bool, true, false}
 use lib.IntN.{ℤ}

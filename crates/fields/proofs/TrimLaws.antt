@@ -1,5 +1,4 @@
 -- A test on every byte of a text whose trailing spaces are off, where the test refuses the space.
--- Assumes nothing.
 use mathlib.Core.Path.{_≡_, refl, sym, ap, _∙_}
 use mathlib.Core.Bool.{Bool, true, false, cond, not, _&&_, and-true}
 use mathlib.Core.List.{List, [], _∷_}

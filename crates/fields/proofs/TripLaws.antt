@@ -1,14 +1,14 @@
 -- A record and a table whose fields cover its columns: the record that is spelt of values that fit keeps the rules and says them again, and a record that keeps the
--- rules says values that fit. Assumes nothing.
+-- rules says values that fit.
 use mathlib.Core.Path.{_≡_, refl, sym, ap, subst, _∙_}
 use mathlib.Core.Bool.{true}
 use mathlib.Core.List.{List, []}
 use Prim.Native.Nat.{ℕ}
 use native.Mathlib.Omega.{arith}
 use lib.ListN.{length}
-use Rattle.filing.specs.Fields.{recordLength, cut, joined, tilesFrom}
-use Rattle.filing.specs.Rules.{All}
-use Rattle.filing.proofs.FieldLaws.{cut-joined, cut-wide}
+use Rattle.basics.specs.Fields.{recordLength, cut, joined, tilesFrom}
+use Rattle.basics.specs.Rules.{All}
+use Rattle.basics.proofs.FieldLaws.{cut-joined, cut-wide}
 use Rattle.fields.specs.Rows.{Row, placesOf, rulesFrom, Values, valuesFrom, fitsOf, speltOf}
 use Rattle.fields.proofs.RowLaws.{sound, Beside, table-wide, table-kept, table-back, table-read}
 

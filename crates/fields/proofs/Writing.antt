@@ -1,5 +1,4 @@
 -- A writer's test: the width of the columns, and then the rule on the value.
--- Assumes nothing.
 use mathlib.Core.Path.{_≡_, sym, _∙_}
 use mathlib.Core.Bool.{Bool, true, false, not, _&&_, and-false}
 use borrow.Author.Tests.{not-true, not-false}

@@ -11,7 +11,7 @@ use Rattle.columns.specs.Numbers.{wholeOf, wholeFilled, wholeFits, spellWhole}
 use Rattle.columns.specs.Numbers as numbers
 use Rattle.columns.specs.Dates.{dateGood, dateFits, dayGood, dayOf, dayFits, spellDay}
 use Rattle.columns.specs.declared.dates.Day.the-variants as days
-use Rattle.filing.specs.Fields.{at}
+use Rattle.basics.specs.Fields.{at}
 use Rattle.fields.specs.Frequencies.{aboveZero, amountGood, unitGood, frequencyOf, frequencyFits, spellAmount, spellUnit}
 use Rattle.fields.specs.Tenths.{anyNumber, tenthsGood, tenthsOf, tenthsFit, spellTenths}
 use Rattle.fields.specs.Distances.{radiusOf, radiusFits, spellRadius, groundOf, groundFits, spellGround, heightRange, heightGood, heightOf, heightFits, spellHeight}

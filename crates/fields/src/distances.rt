@@ -30,7 +30,7 @@ pub enum Height {
 }
 
 // Whether a whole number was read.
-pub(crate) fn is_filled(w: Whole) -> bool
+pub(crate) fn says_number(w: Whole) -> bool
     ensures { λ r. ⌜ r ≡ wholeFilled w ⌝ }
 {
     match w {
@@ -55,7 +55,7 @@ pub(crate) fn amount_of(w: Whole) -> u64
 pub fn is_whole_filled(s: &[u8]) -> bool
     ensures { λ r. ⌜ r ≡ wholeFilled (wholeOf (now (s .entry))) ⌝ }
 {
-    is_filled(read_whole(s))
+    says_number(read_whole(s))
 }
 
 // The radius that its columns say.

@@ -57,7 +57,7 @@ pub fn is_multiplex(c: u8) -> bool
 }
 
 // The letter of a bandwidth: hertz, kilohertz, megahertz or gigahertz.
-fn is_unit(c: u8) -> bool
+fn is_bandwidth_letter(c: u8) -> bool
     ensures { λ r. ⌜ r ≡ among "HKMG" c ⌝ }
 {
     match c {
@@ -80,7 +80,11 @@ fn is_late(c: u8) -> bool
 fn holds(letter: bool, c: u8) -> bool
     ensures { λ r. ⌜ r ≡ cond letter (among "HKMG" c) (isDigit c) ⌝ }
 {
-    if letter { is_unit(c) } else { is_digit(c) }
+    if letter {
+        is_bandwidth_letter(c)
+    } else {
+        is_digit(c)
+    }
 }
 
 // How many places hold a letter, or a digit where no letter is asked for.

@@ -1,6 +1,6 @@
 // Positions: the coordinates 4C, read and written. Each half has degrees, a letter, minutes and seconds.
 use crate::distances::amount_of;
-use crate::distances::is_filled;
+use crate::distances::says_number;
 use columns::numbers::Whole;
 use columns::numbers::is_negative;
 use columns::numbers::magnitude;
@@ -62,7 +62,7 @@ fn arc_in(p: &[u8], d: usize) -> Arc
 fn is_up_to(most: u64, w: Whole) -> bool
     ensures { λ r. ⌜ r ≡ wholeFilled w && leb (amount w) most ⌝ }
 {
-    if is_filled(w) {
+    if says_number(w) {
         amount_of(w) <= most
     } else {
         false
@@ -81,7 +81,7 @@ fn seconds_in(a: Arc) -> u64
 }
 
 // Whether a byte is one of two letters.
-fn is_either(plus: u8, minus: u8, c: u8) -> bool
+fn is_hemisphere(plus: u8, minus: u8, c: u8) -> bool
     ensures { λ r. ⌜ r ≡ eqb c plus || (eqb c minus || false) ⌝ }
 {
     if c == plus { true } else { c == minus }
@@ -100,7 +100,7 @@ fn is_arc(a: Arc, plus: u8, minus: u8, degrees: u64) -> bool
     if !is_up_to(degrees, whole) {
         return false;
     }
-    if !is_either(plus, minus, a.letter) {
+    if !is_hemisphere(plus, minus, a.letter) {
         return false;
     }
     let minutes = a.minutes;
@@ -183,7 +183,7 @@ fn put_arc(s: &mut [u8], d: usize, plus: u8, minus: u8, v: i64)
 }
 
 // Writes both halves.
-fn put_position(s: &mut [u8], v: Position)
+fn put_arcs(s: &mut [u8], v: Position)
     requires { ⌜ length (now s) ≡ 15 ⌝ }
     ensures { λ _. ⌜ now (s .exit) ≡ spellPosition v ⌝ }
 {
@@ -202,6 +202,6 @@ pub fn write_position(s: &mut [u8], v: Position) -> bool
     if !fits_position(v) {
         return false;
     }
-    put_position(s, v);
+    put_arcs(s, v);
     true
 }

@@ -1,4 +1,4 @@
--- The figures marked P hold of the rules, computed from the definitions. Assumes nothing.
+-- The figures marked P hold of the rules, computed from the definitions.
 use mathlib.Core.Path.{refl}
 use Rattle.columns.specs.Sets.{among, isHex, isNarrow, isText, isName}
 use Rattle.columns.specs.Texts.{skip, trimmed, every, howMany, each, byteGood, same, oneOf}
@@ -12,16 +12,16 @@ use Rattle.fields.specs.Positions.{arcSeconds, arcGood, arcOf, positionGood, po
 use Rattle.fields.specs.Emission.{bandwidthGood, detailGood, emissionGood}
 use Rattle.fields.specs.Remarks.{cellGood, installationGood, remarksGood}
 use Rattle.fields.specs.Rows.{_&_}
-use Rattle.filing.specs.Rules.{firstBroken}
+use Rattle.basics.specs.Rules.{firstBroken}
 use Rattle.station.specs.Places.{fieldsOf}
 use Rattle.station.specs.Rules.{fieldRules}
 use Rattle.station.specs.Between.{roundAntenna, betweenRules}
 use Rattle.station.specs.Values.{stationOf}
 use Rattle.station.specs.Codes.{stationCode, valueOf}
-use Rattle.figures.specs.Figures.{Holds, AllHold, table}
+use Rattle.figures.specs.Figures.{FigureHolds, AllHold, table}
 
 pub figures-hold : AllHold table
-unfolding Holds among isHex isNarrow isText isName skip trimmed every howMany each byteGood same oneOf leading numberFrom wholeDigits wholeOf unsigned signedOf fractionOf magnitudeOf decimalOf dateRule dateIn dateOf dayGood dayOf tenthsGood tenthsOf amountGood unitGood unitOf frequencyOf radiusOf groundOf heightGood heightOf arcSeconds arcGood arcOf positionGood positionOf bandwidthGood detailGood emissionGood cellGood installationGood remarksGood firstBroken fieldsOf fieldRules roundAntenna betweenRules stationOf valueOf stationCode
+unfolding FigureHolds among isHex isNarrow isText isName skip trimmed every howMany each byteGood same oneOf leading numberFrom wholeDigits wholeOf unsigned signedOf fractionOf magnitudeOf decimalOf dateRule dateIn dateOf dayGood dayOf tenthsGood tenthsOf amountGood unitGood unitOf frequencyOf radiusOf groundOf heightGood heightOf arcSeconds arcGood arcOf positionGood positionOf bandwidthGood detailGood emissionGood cellGood installationGood remarksGood firstBroken fieldsOf fieldRules roundAntenna betweenRules stationOf valueOf stationCode
 figures-hold =
     (refl, refl) & (refl, refl) & (refl, refl) & (refl, refl) & (refl, refl) & (refl, refl) & (refl, refl) & (refl, refl) &
     (refl, refl) & (refl, refl) & (refl, refl) & tt

@@ -1,4 +1,4 @@
--- The sheets, lines and traps are what the definitions give, computed from them. Assumes nothing.
+-- The sheets, lines and traps are what the definitions give, computed from them.
 use mathlib.Core.Path.{refl}
 use Rattle.columns.specs.Sets.{among, isHex, isNarrow, isText, isName, isMail}
 use Rattle.columns.specs.Texts.{skip, trimmed, every, howMany, each, byteGood, same, oneOf, textGood}
@@ -12,7 +12,7 @@ use Rattle.fields.specs.Positions.{arcSeconds, arcGood, arcOf, positionGood, po
 use Rattle.fields.specs.Emission.{bandwidthGood, detailGood, emissionGood}
 use Rattle.fields.specs.Remarks.{cellGood, installationGood, remarksGood}
 use Rattle.fields.specs.Rows.{_&_}
-use Rattle.filing.specs.Rules.{firstBroken}
+use Rattle.basics.specs.Rules.{firstBroken}
 use Rattle.station.specs.Places.{fieldsOf}
 use Rattle.station.specs.Rules.{fieldRules, typedRules}
 use Rattle.station.specs.Between.{roundAntenna, betweenRules}
@@ -36,12 +36,12 @@ use Rattle.sheet.specs.Sheets.{twinAt, rowOf, judgedSheet, sheetOf}
 use Rattle.sheet.specs.Replacing.{touched, mendedRow, writes, rowsWritten}
 use Rattle.sheet.specs.Replacing as replacing
 use Rattle.sheet.specs.Calls.{replaceOutcome, replacedSheet, replacedRows}
-use Rattle.filing.specs.Outcomes.{refusal, codeWith, ifDone, firstRefusal}
-use Rattle.figures.specs.Figures.{Holds}
+use Rattle.basics.specs.Outcomes.{refusal, codeWith, ifDone, firstRefusal}
+use Rattle.figures.specs.Figures.{FigureHolds}
 use Rattle.figures.specs.Worked.{Worked}
 
 pub worked : Worked
-unfolding Holds among isHex isNarrow isText isName skip trimmed every howMany each byteGood same oneOf leading numberFrom wholeDigits wholeOf unsigned signedOf fractionOf magnitudeOf decimalOf dateRule dateIn dateOf dayGood dayOf tenthsGood tenthsOf amountGood unitGood unitOf frequencyOf radiusOf groundOf heightGood heightOf arcSeconds arcGood arcOf positionGood positionOf bandwidthGood detailGood emissionGood cellGood installationGood remarksGood firstBroken fieldsOf fieldRules roundAntenna betweenRules stationOf valueOf stationCode isMail textGood dateGood serialGood serialOf headerOf headerFields headerRules headerValue headerCode filedHeaderCode stations recordAt withRecord referenceAt codeAt tooLong notRecords placesOf fieldAt fieldCount twinAt rowOf rowAt badAt trailerOf closed judgedSheet sheetOf headAt fitsForm touched mendedRow replacing.mendedSheet writes rowsWritten refusal codeWith ifDone firstRefusal replaceOutcome replacedSheet replacedRows showOutcome shownField frequencyFits dayFits radiusFits groundFits heightFits positionFits tenthsFit typedRules typedCode spellDigits spellMagnitude spellDecimal spellSigned spellDate spellDay spellTenths unitLetter spellAmount spellUnit spellRadius spellGround spellHeight spellArc spellPosition stationPieces spellStation trimmedField paddedField lineOf before behind split lineFields isLine lines.recordOf lineOutcome stationInLine
+unfolding FigureHolds among isHex isNarrow isText isName skip trimmed every howMany each byteGood same oneOf leading numberFrom wholeDigits wholeOf unsigned signedOf fractionOf magnitudeOf decimalOf dateRule dateIn dateOf dayGood dayOf tenthsGood tenthsOf amountGood unitGood unitOf frequencyOf radiusOf groundOf heightGood heightOf arcSeconds arcGood arcOf positionGood positionOf bandwidthGood detailGood emissionGood cellGood installationGood remarksGood firstBroken fieldsOf fieldRules roundAntenna betweenRules stationOf valueOf stationCode isMail textGood dateGood serialGood serialOf headerOf headerFields headerRules headerValue headerCode filedHeaderCode stations recordAt withRecord referenceAt codeAt tooLong notRecords placesOf fieldAt fieldCount twinAt rowOf rowAt badAt trailerOf closed judgedSheet sheetOf headAt fitsForm touched mendedRow replacing.mendedSheet writes rowsWritten refusal codeWith ifDone firstRefusal replaceOutcome replacedSheet replacedRows showOutcome shownField frequencyFits dayFits radiusFits groundFits heightFits positionFits tenthsFit typedRules typedCode spellDigits spellMagnitude spellDecimal spellSigned spellDate spellDay spellTenths unitLetter spellAmount spellUnit spellRadius spellGround spellHeight spellArc spellPosition stationPieces spellStation trimmedField paddedField lineOf before behind split lineFields isLine lines.recordOf lineOutcome stationInLine
 worked = record {
   traps-hold =
       (refl, refl) & (refl, refl) & (refl, refl) & (refl, refl) & (refl, refl) & (refl, refl) & (refl, refl) & (refl, refl) &

@@ -17,10 +17,10 @@ use Rattle.fields.specs.Positions.{arcSeconds, arcGood, arcOf, positionGood, po
 use Rattle.fields.specs.Emission.{bandwidthGood, detailGood, emissionGood}
 use Rattle.fields.specs.Remarks.{cellGood, installationGood, remarksGood}
 use Rattle.fields.specs.Codes.{isCategory, classGood, serviceGood, usersGood, isCarrier, nameGood, countryGood, isBasis, polarisationGood, antennaGood, isStatus, referenceGood}
-use Rattle.filing.specs.Rules.{firstBroken}
-use Rattle.filing.specs.Outcomes.{refusal, codeWith, judged}
+use Rattle.basics.specs.Rules.{firstBroken}
+use Rattle.basics.specs.Outcomes.{refusal, codeWith, judged}
 use Rattle.station.specs.Places.{fieldsOf}
-use Rattle.station.specs.Rules.{fieldRules, channelFields, siteFields, emissionFields, antennaFields, filingFields, channelRules, siteRules, emissionRules, antennaRules, filingRules, typedRules}
+use Rattle.station.specs.Rules.{fieldRules, channelFields, siteFields, emissionFields, antennaFields, coordinationFields, channelRules, siteRules, emissionRules, antennaRules, coordinationRules, typedRules}
 use Rattle.station.specs.Between.{mobile, roundAntenna, firstBetween, lastBetween, betweenRules}
 use Rattle.station.specs.Values.{stationOf}
 use Rattle.station.specs.Codes.{valueOf, stationCode, typedCode}
@@ -67,15 +67,15 @@ pub record RealDays : Type 0 where
   -- A typed date that is no day breaks its field's rule and cannot be written; the header's neither.
   pub typed-leap-day : typedCode (sited (dated 29 2 2024) (typedS .site .position) (typedS .site .radius)) ≡ 0
   pub typed-no-day : typedCode (sited (dated 30 2 2024) (typedS .site .position) (typedS .site .radius)) ≡ 8
-  pub typed-request : typedCode (filed (typedS .filing .receive) (dated 31 4 2024) (typedS .filing .coordinated)) ≡ 28
-  pub typed-agreement : typedCode (filed (typedS .filing .receive) (typedS .filing .requested) (dated 29 2 2100)) ≡ 29
+  pub typed-request : typedCode (filed (typedS .coordination .receive) (dated 31 4 2024) (typedS .coordination .coordinated)) ≡ 28
+  pub typed-agreement : typedCode (filed (typedS .coordination .receive) (typedS .coordination .requested) (dated 29 2 2100)) ≡ 29
   pub typed-header : (dateFits (dated 29 2 2000) ≡ true) × (dateFits (dated 29 2 2100) ≡ false)
   pub not-written : ended (writeOutcome (sited (dated 30 2 2024) (typedS .site .position) (typedS .site .radius)) (dashes 219)) ≡ (9 ∷ 8 ∷ [])
   -- A list refuses it with 9 and the code.
   pub not-listed : (listedRefusal (lineOutcome lateLine) ≡ 9) × (listedCode (lineOutcome lateLine) ≡ 8)
 
 pub real-days : RealDays
-unfolding among isHex isNarrow isText isName isMail skip trimmed every howMany each byteGood same oneOf textGood leading numberFrom wholeDigits wholeOf unsigned signedOf fractionOf magnitudeOf decimalOf dateRule dateIn dateOf dayGood dayOf dayFits dateGood dateFits tenthsGood tenthsOf tenthsFit amountGood unitGood unitOf frequencyOf frequencyFits radiusOf groundOf heightGood heightOf radiusFits groundFits heightFits arcSeconds arcGood arcOf positionGood positionOf positionFits bandwidthGood detailGood emissionGood cellGood installationGood remarksGood isCategory classGood serviceGood usersGood isCarrier nameGood countryGood isBasis polarisationGood antennaGood isStatus referenceGood firstBroken refusal codeWith judged fieldsOf fieldRules channelFields siteFields emissionFields antennaFields filingFields channelRules siteRules emissionRules antennaRules filingRules typedRules mobile roundAntenna firstBetween lastBetween betweenRules stationOf valueOf stationCode typedCode writeOutcome trimmedField paddedField before behind split lineFields isLine lines.recordOf listedRefusal listedCode unbroken lineOutcome headerFields serialGood serialOf headerOf headerRules headerCode
+unfolding among isHex isNarrow isText isName isMail skip trimmed every howMany each byteGood same oneOf textGood leading numberFrom wholeDigits wholeOf unsigned signedOf fractionOf magnitudeOf decimalOf dateRule dateIn dateOf dayGood dayOf dayFits dateGood dateFits tenthsGood tenthsOf tenthsFit amountGood unitGood unitOf frequencyOf frequencyFits radiusOf groundOf heightGood heightOf radiusFits groundFits heightFits arcSeconds arcGood arcOf positionGood positionOf positionFits bandwidthGood detailGood emissionGood cellGood installationGood remarksGood isCategory classGood serviceGood usersGood isCarrier nameGood countryGood isBasis polarisationGood antennaGood isStatus referenceGood firstBroken refusal codeWith judged fieldsOf fieldRules channelFields siteFields emissionFields antennaFields coordinationFields channelRules siteRules emissionRules antennaRules coordinationRules typedRules mobile roundAntenna firstBetween lastBetween betweenRules stationOf valueOf stationCode typedCode writeOutcome trimmedField paddedField before behind split lineFields isLine lines.recordOf listedRefusal listedCode unbroken lineOutcome headerFields serialGood serialOf headerOf headerRules headerCode
 real-days = record {
   station-takes = refl;
   station-refuses = refl;

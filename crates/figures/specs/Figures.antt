@@ -46,15 +46,15 @@ pub record Figure : Type 0 where
   pub code : ℕ
   pub says : List ℤ
 
-unfoldable pub Holds : Figure → Type 0
-Holds g =
+unfoldable pub FigureHolds : Figure → Type 0
+FigureHolds g =
     let r = sWith (g .field) (g .text) in
     (stationCode r ≡ g .code) × (cond (eqb (g .code) 0) (numbers (g .field) (valueOf r)) [] ≡ g .says)
 
 -- All of a table.
 abbrev pub AllHold : List Figure → Type 0
 AllHold [] = Unit {0}
-AllHold (g ∷ gs) = Holds g × AllHold gs
+AllHold (g ∷ gs) = FigureHolds g × AllHold gs
 
 abbrev pub figure : ℕ → String → ℕ → List ℤ → Figure
 figure k t c zs = record { field = k; text = t; code = c; says = zs }

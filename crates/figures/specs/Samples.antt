@@ -6,9 +6,9 @@ use lib.ListN.{set}
 use Rattle.columns.specs.Texts.{bytes}
 
 -- The record of its fields' texts.
-abbrev pub recordOf : List String → List ℕ
-recordOf [] = []
-recordOf (t ∷ ts) = bytes t ++ recordOf ts
+abbrev pub recordFrom : List String → List ℕ
+recordFrom [] = []
+recordFrom (t ∷ ts) = bytes t ++ recordFrom ts
 
 -- Station S.
 abbrev pub stationS : List String
@@ -66,8 +66,8 @@ headerOf count =
 
 -- Station S with another text in field number k.
 abbrev pub sWith : ℕ → String → List ℕ
-sWith k t = recordOf (set stationS (k - 1) t)
+sWith k t = recordFrom (set stationS (k - 1) t)
 
 -- The valid header of no stations with another text in field number k.
 abbrev pub headerWith : ℕ → String → List ℕ
-headerWith k t = recordOf (set (headerOf "     0") (k - 1) t)
+headerWith k t = recordFrom (set (headerOf "     0") (k - 1) t)

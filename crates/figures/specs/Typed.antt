@@ -28,19 +28,19 @@ use Rattle.fields.specs.declared.tenths.Tenths.the-variants as tenths
 use Rattle.fields.specs.declared.distances.Kilometres.{Kilometres}
 use Rattle.fields.specs.declared.distances.Height.the-variants as height
 use Rattle.fields.specs.declared.positions.Position.{Position}
-use Rattle.filing.specs.Rules.{firstBroken}
-use Rattle.filing.specs.Outcomes.{refusal, codeWith, ifDone, judged}
-use Rattle.filing.specs.declared.Outcome.{Outcome}
+use Rattle.basics.specs.Rules.{firstBroken}
+use Rattle.basics.specs.Outcomes.{refusal, codeWith, ifDone, judged}
+use Rattle.basics.specs.declared.Outcome.{Outcome}
 use Rattle.station.specs.Places.{fieldsOf}
-use Rattle.station.specs.Rules.{fieldRules, channelFields, siteFields, emissionFields, antennaFields, filingFields, channelRules, siteRules, emissionRules, antennaRules, filingRules, typedRules}
+use Rattle.station.specs.Rules.{fieldRules, channelFields, siteFields, emissionFields, antennaFields, coordinationFields, channelRules, siteRules, emissionRules, antennaRules, coordinationRules, typedRules}
 use Rattle.station.specs.Between.{mobile, roundAntenna, firstBetween, lastBetween, betweenRules}
 use Rattle.station.specs.Values.{stationOf, emptyStation}
-use Rattle.station.specs.Spelling.{channelPieces, sitePieces, emissionPieces, antennaPieces, filingPieces, stationPieces, spellStation}
+use Rattle.station.specs.Spelling.{channelPieces, sitePieces, emissionPieces, antennaPieces, coordinationPieces, stationPieces, spellStation}
 use Rattle.station.specs.Codes.{valueOf, stationCode, typedCode}
 use Rattle.station.specs.Calls.{readOutcome, readStation, writeOutcome, writtenStation, setOutcome, setStation}
 use Rattle.station.specs.Setting.{withSite, withAntenna, withPower, withAzimuth, withElevation, withHeight, withGround}
 use Rattle.station.specs.declared.Station.{Station}
-use Rattle.figures.specs.Samples.{recordOf, stationS}
+use Rattle.figures.specs.Samples.{recordFrom, stationS}
 use Rattle.figures.specs.Worked.{spelledS}
 
 -- A text in field number k of a record's texts.
@@ -49,7 +49,7 @@ put k t fields = set fields (k - 1) t
 
 -- The typed station that texts say, whether or not they keep their rules: text and codes are kept as their bytes.
 abbrev pub said : List String → Station
-said fields = valueOf (recordOf fields)
+said fields = valueOf (recordFrom fields)
 
 -- Station S, typed.
 abbrev pub typedS : Station
@@ -75,7 +75,7 @@ withTransmit v =
       site = s .site;
       emission = s .emission;
       antenna = s .antenna;
-      filing = s .filing;
+      coordination = s .coordination;
     }
 
 -- 2C, 4C or 4D,
@@ -116,13 +116,13 @@ filed receive requested coordinated =
       site = s .site;
       emission = s .emission;
       antenna = s .antenna;
-      filing = record {
+      coordination = record {
         receive = receive;
-        remarks = s .filing .remarks;
-        status = s .filing .status;
+        remarks = s .coordination .remarks;
+        status = s .coordination .status;
         requested = requested;
         coordinated = coordinated;
-        reference = s .filing .reference;
+        reference = s .coordination .reference;
       };
     }
 
@@ -155,11 +155,11 @@ broken =
     withGround typedS (record { 0 = negℤ (pos 1) }) ∷
     saidWith 22 "000nd00" ∷
     saidWith 23 "000ND0 " ∷
-    filed (frequency.Filled 10000000000 hertz.Giga) (typedS .filing .requested) (typedS .filing .coordinated) ∷
+    filed (frequency.Filled 10000000000 hertz.Giga) (typedS .coordination .requested) (typedS .coordination .coordinated) ∷
     saidWith 26 "99999999999999999999999999999999999999999999999999" ∷
     saidWith 27 "X" ∷
-    filed (typedS .filing .receive) (dated 0 1 2000) (typedS .filing .coordinated) ∷
-    filed (typedS .filing .receive) (typedS .filing .requested) (dated 1 13 2000) ∷
+    filed (typedS .coordination .receive) (dated 0 1 2000) (typedS .coordination .coordinated) ∷
+    filed (typedS .coordination .receive) (typedS .coordination .requested) (dated 1 13 2000) ∷
     saidWith 30 "AUT2311AB01A00x" ∷
     said (put 1 "           " (put 15 "      " (put 24 "           " stationS))) ∷
     saidWith 1 "           " ∷
@@ -200,11 +200,11 @@ Refused changed c = (ended (setOutcome changed) ≡ (9 ∷ c ∷ [])) × (setSta
 -- What the definitions make of these.
 pub record TypedWorked : Type 0 where
   -- Station S is read, and written in the one spelling; that is read as the same station, and written as it stands.
-  pub read-ends : ended (readOutcome (recordOf stationS)) ≡ done
-  pub written-ends : ended (writeOutcome (readStation (recordOf stationS)) (dashes 219)) ≡ done
-  pub written : writtenStation (readStation (recordOf stationS)) (dashes 219) ≡ recordOf spelledS
-  pub read-again : ended (readOutcome (recordOf spelledS)) ≡ done
-  pub written-again : writtenStation (readStation (recordOf spelledS)) (dashes 219) ≡ recordOf spelledS
+  pub read-ends : ended (readOutcome (recordFrom stationS)) ≡ done
+  pub written-ends : ended (writeOutcome (readStation (recordFrom stationS)) (dashes 219)) ≡ done
+  pub written : writtenStation (readStation (recordFrom stationS)) (dashes 219) ≡ recordFrom spelledS
+  pub read-again : ended (readOutcome (recordFrom spelledS)) ≡ done
+  pub written-again : writtenStation (readStation (recordFrom spelledS)) (dashes 219) ≡ recordFrom spelledS
   -- Each rule that a typed station can break.
   pub codes : map typedCode broken ≡ brokenCodes
   -- Values set: a power of 35.0, an azimuth of 360.0, no elevation, a height of -999 and one above ground of -1.
@@ -220,7 +220,7 @@ pub record TypedWorked : Type 0 where
   pub empty-kept : writtenStation emptyStation (dashes 219) ≡ dashes 219
 
 pub typed-worked : TypedWorked
-unfolding among isHex isNarrow isText isName skip trimmed every howMany each byteGood same oneOf leading numberFrom wholeDigits wholeOf unsigned signedOf spellDigits spellSigned fractionOf magnitudeOf decimalOf spellMagnitude spellDecimal dateRule dateIn dateOf dayGood dayOf dayFits spellDate spellDay tenthsGood tenthsOf tenthsFit spellTenths amountGood unitGood unitOf frequencyOf frequencyFits unitLetter spellAmount spellUnit radiusOf groundOf heightGood heightOf radiusFits groundFits heightFits spellRadius spellGround spellHeight arcSeconds arcGood arcOf positionGood positionOf positionFits spellArc spellPosition bandwidthGood detailGood emissionGood cellGood installationGood remarksGood isCategory classGood serviceGood usersGood isCarrier nameGood countryGood isBasis polarisationGood antennaGood isStatus referenceGood firstBroken refusal codeWith ifDone judged fieldsOf fieldRules channelFields siteFields emissionFields antennaFields filingFields channelRules siteRules emissionRules antennaRules filingRules typedRules mobile roundAntenna firstBetween lastBetween betweenRules stationOf emptyStation channelPieces sitePieces emissionPieces antennaPieces filingPieces stationPieces spellStation valueOf stationCode typedCode readOutcome readStation writeOutcome writtenStation setOutcome setStation
+unfolding among isHex isNarrow isText isName skip trimmed every howMany each byteGood same oneOf leading numberFrom wholeDigits wholeOf unsigned signedOf spellDigits spellSigned fractionOf magnitudeOf decimalOf spellMagnitude spellDecimal dateRule dateIn dateOf dayGood dayOf dayFits spellDate spellDay tenthsGood tenthsOf tenthsFit spellTenths amountGood unitGood unitOf frequencyOf frequencyFits unitLetter spellAmount spellUnit radiusOf groundOf heightGood heightOf radiusFits groundFits heightFits spellRadius spellGround spellHeight arcSeconds arcGood arcOf positionGood positionOf positionFits spellArc spellPosition bandwidthGood detailGood emissionGood cellGood installationGood remarksGood isCategory classGood serviceGood usersGood isCarrier nameGood countryGood isBasis polarisationGood antennaGood isStatus referenceGood firstBroken refusal codeWith ifDone judged fieldsOf fieldRules channelFields siteFields emissionFields antennaFields coordinationFields channelRules siteRules emissionRules antennaRules coordinationRules typedRules mobile roundAntenna firstBetween lastBetween betweenRules stationOf emptyStation channelPieces sitePieces emissionPieces antennaPieces coordinationPieces stationPieces spellStation valueOf stationCode typedCode readOutcome readStation writeOutcome writtenStation setOutcome setStation
 typed-worked = record {
   read-ends = refl;
   written-ends = refl;

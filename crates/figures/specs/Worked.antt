@@ -13,18 +13,18 @@ use Rattle.header.specs.Codes.{headerCode, filedHeaderCode}
 use Rattle.files.specs.Calls.{showOutcome, shownField}
 use Rattle.sheet.specs.Sheets.{sheetOf}
 use Rattle.sheet.specs.Calls.{replacedSheet, replacedRows}
-use Rattle.filing.specs.Outcomes.{refusal, codeWith}
+use Rattle.basics.specs.Outcomes.{refusal, codeWith}
 use Rattle.figures.specs.Figures.{Figure, figure, minus, AllHold}
 use lib.IntN.{pos}
 use Rattle.figures.specs.Samples as samples
-use Rattle.figures.specs.Samples.{recordOf, stationS, sWith, headerWith}
+use Rattle.figures.specs.Samples.{recordFrom, stationS, sWith, headerWith}
 
 abbrev pub s : List ℕ
-s = recordOf stationS
+s = recordFrom stationS
 
 -- A valid header, and station S twice.
 abbrev pub two : List ℕ
-two = recordOf (samples.headerOf "     2") ++ (s ++ s)
+two = recordFrom (samples.headerOf "     2") ++ (s ++ s)
 
 -- Its sheet: the second station is the first one's twin.
 abbrev pub twoSheet : List ℕ
@@ -106,7 +106,7 @@ pub record Worked : Type 0 where
   -- Station S breaks no rule, read or typed, and has one spelling.
   pub s-code : stationCode s ≡ 0
   pub s-typed : typedCode (valueOf s) ≡ 0
-  pub s-spelling : spellStation (valueOf s) ≡ recordOf spelledS
+  pub s-spelling : spellStation (valueOf s) ≡ recordFrom spelledS
   -- As a line it goes out in full, 13Z with its spaces, and short fields come in as the same station.
   pub s-line : lineOf (valueOf s) ≡ lineS
   pub s-kept : stationInLine keptS ≡ valueOf s
@@ -119,10 +119,10 @@ pub record Worked : Type 0 where
   pub two-mended : replacedSheet two twoSheet 1 (sWith 30 "AUT2311AB01A002") ≡ mendedSheet
   pub two-rows : replacedRows two twoSheet 1 (sWith 30 "AUT2311AB01A002") ≡ 2
   -- A valid header alone, count 0.
-  pub header-alone : sheetOf (recordOf (samples.headerOf "     0")) ≡ aloneSheet
+  pub header-alone : sheetOf (recordFrom (samples.headerOf "     0")) ≡ aloneSheet
   -- A count that is not n is code 15, in a sheet alone.
-  pub wrong-count : filedHeaderCode (recordOf (samples.headerOf "     3")) 2 ≡ 15
-  pub count-unasked : headerCode (recordOf (samples.headerOf "     3")) ≡ 0
+  pub wrong-count : filedHeaderCode (recordFrom (samples.headerOf "     3")) 2 ≡ 15
+  pub count-unasked : headerCode (recordFrom (samples.headerOf "     3")) ≡ 0
   -- A zero is no letter O, an @ stands in the e-mail alone, [ in no text, and the header's date may not be blank.
   pub zero-for-o : headerCode (headerWith 3 "0") ≡ 3
   pub at-in-text : headerCode (headerWith 8 "m@muster            ") ≡ 8

@@ -1,5 +1,4 @@
 -- A record as a part of its file: the whole of it, what is there of the last one, or nothing.
--- Assumes nothing.
 use mathlib.Core.Path.{_≡_, sym, _∙_}
 use mathlib.Core.List.{List, []}
 use Prim.Native.Nat.{ℕ, _+_, _-_, _*_, _/_, _≤_, _<_}

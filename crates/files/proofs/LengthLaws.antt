@@ -9,9 +9,9 @@ use native.Mathlib.Omega.{arith}
 use lib.ListN.{length}
 use lib.Dec.{eqb}
 use borrow.Author.Tests.{eqb-true, eqb-false, ltb-false, not-false}
-use Rattle.filing.specs.Fields.{recordLength}
-use Rattle.filing.specs.Outcomes.{refusal, firstRefusal}
-use Rattle.filing.proofs.RefusalLaws.{done, NoneApplies, none-applies}
+use Rattle.basics.specs.Fields.{recordLength}
+use Rattle.basics.specs.Outcomes.{refusal, firstRefusal}
+use Rattle.basics.proofs.RefusalLaws.{done, NoneApplies, none-applies}
 use Rattle.files.specs.Files.{stations, tooLong, notRecords, mostStations}
 use Rattle.files.specs.Calls.{fileTests}
 

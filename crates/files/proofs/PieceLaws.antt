@@ -1,5 +1,4 @@
 -- Where a piece that is lent stands: a piece of a piece, a record of its file, and the field that is shown; and how long that is.
--- Assumes nothing.
 use mathlib.Core.Path.{_≡_, refl, sym, ap, _∙_}
 use mathlib.Core.Bool.{Bool, true, false}
 use mathlib.Core.List.{List}
@@ -8,13 +7,13 @@ use native.Mathlib.Omega.{arith}
 use lib.ListN.{length, take, drop, length-drop}
 use lib.Seq.{take-all, length-take-le}
 use denote.Ref.{RefT, ptr, now}
-use Rattle.filing.specs.Fields.{placeOf}
-use Rattle.filing.specs.Outcomes.{ifDone}
-use Rattle.filing.specs.declared.Place.{Place}
+use Rattle.basics.specs.Fields.{placeOf}
+use Rattle.basics.specs.Outcomes.{ifDone}
+use Rattle.basics.specs.declared.Place.{Place}
 use Rattle.files.specs.Files.{recordOffset, placesOf}
 use Rattle.files.specs.Calls.{showOutcome, shownField, shownOffset, shownLength}
 use Rattle.files.specs.Promises.{StandsAt}
-use Rattle.filing.proofs.RefusalLaws.{done}
+use Rattle.basics.proofs.RefusalLaws.{done}
 use Rattle.files.proofs.PlaceLaws.{places-tile, place-inside}
 use Rattle.files.proofs.ShowLaws.{shown-there, shown-at}
 

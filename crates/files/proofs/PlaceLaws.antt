@@ -1,5 +1,4 @@
 -- The place of a field: inside the record, and the piece of the record that is the field.
--- Assumes nothing.
 use mathlib.Core.Path.{_≡_, refl}
 use mathlib.Core.Bool.{true, not, and-eq-true-iff}
 use mathlib.Core.List.{List, [], _∷_}
@@ -10,8 +9,8 @@ use native.Mathlib.Omega.{arith}
 use lib.ListN.{length, getD, take, drop}
 use lib.Dec.{leb, ltb, eqb}
 use borrow.Author.Tests.{eqb-true, le-leb, lt-leb, lt-ltb, le-ltb}
-use Rattle.filing.specs.Fields.{recordLength, cut, at, placeOf, tilesFrom}
-use Rattle.filing.proofs.FieldLaws.{tiles-inside}
+use Rattle.basics.specs.Fields.{recordLength, cut, at, placeOf, tilesFrom}
+use Rattle.basics.proofs.FieldLaws.{tiles-inside}
 use Rattle.station.specs.Places.{stationPlaces, station-tiles}
 use Rattle.header.specs.Places.{header-tiles}
 use Rattle.files.specs.Files.{placesOf}

@@ -1,5 +1,4 @@
 -- A file is its records; so records replaced one after the other can be told apart by their numbers alone.
--- Assumes nothing.
 use mathlib.Core.Path.{_≡_, refl, sym, ap, _∙_}
 use mathlib.Core.Bool.{Bool, true, false, cond}
 use mathlib.Core.List.{List}

@@ -1,5 +1,4 @@
 -- A file whose record number k was replaced: as long as before, with the new record, and every other record as it was.
--- Assumes nothing.
 use mathlib.Core.Path.{_≡_, sym, ap, _∙_}
 use mathlib.Core.Logic.{⊎-elim, _⊎_, inl, inr}
 use mathlib.Core.List.{List, _++_}

@@ -1,5 +1,4 @@
 -- How showing ends: what no refusal tells of the record's number and the field's, and what is shown.
--- Assumes nothing.
 use mathlib.Core.Path.{_≡_, refl, sym, ap, _∙_}
 use mathlib.Core.Bool.{true, false}
 use mathlib.Core.List.{List, [], _∷_, _++_}
@@ -9,9 +8,9 @@ use lib.ListN.{length, take, drop}
 use lib.Seq.{take-take, drop-drop}
 use lib.Dec.{ltb, eqb}
 use borrow.Author.Tests.{eqb-false, ltb-false}
-use Rattle.filing.specs.Fields.{placeOf}
-use Rattle.filing.specs.Outcomes.{refusal, ifDone}
-use Rattle.filing.proofs.RefusalLaws.{done, none-applies}
+use Rattle.basics.specs.Fields.{placeOf}
+use Rattle.basics.specs.Outcomes.{refusal, ifDone}
+use Rattle.basics.proofs.RefusalLaws.{done, none-applies}
 use Rattle.files.specs.Files.{stations, recordAt, placesOf, fieldAt, fieldCount}
 use Rattle.files.specs.Calls.{fileTests, numberTest, fieldTest, showOutcome, shownField}
 use Rattle.files.proofs.LengthLaws.{positive, or-false, whole-records}

@@ -1,18 +1,17 @@
 -- The promises of the calls on files leave one answer.
--- Assumes nothing.
 use mathlib.Core.Path.{_≡_, sym, ap, _∙_}
 use mathlib.Core.Bool.{true}
 use mathlib.Core.List.{List}
 use Prim.Native.Nat.{ℕ, _+_, _-_, _*_, _≤_}
 use native.Mathlib.Omega.{arith}
 use denote.Ref.{RefT, ptr, now}
-use Rattle.filing.specs.Fields.{placeOf}
-use Rattle.filing.specs.declared.Outcome.{Outcome}
-use Rattle.filing.specs.declared.Place.{Place}
+use Rattle.basics.specs.Fields.{placeOf}
+use Rattle.basics.specs.declared.Outcome.{Outcome}
+use Rattle.basics.specs.declared.Place.{Place}
 use Rattle.files.specs.Files.{placesOf}
 use Rattle.files.specs.Calls.{showOutcome, shownOffset}
 use Rattle.files.specs.Promises.{FileChecked, StationsCounted, RecordFound, FieldPlaced, ShowJudged, FieldShown}
-use Rattle.filing.proofs.RefusalLaws.{done}
+use Rattle.basics.proofs.RefusalLaws.{done}
 use Rattle.files.proofs.PlaceLaws.{not-header}
 use Rattle.files.proofs.PieceLaws.{shown-begins}
 

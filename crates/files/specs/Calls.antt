@@ -3,10 +3,10 @@ use Prim.Native.Nat.{ℕ, _+_, _-_, _*_}
 use mathlib.Core.Bool.{_||_}
 use mathlib.Core.List.{List, [], _∷_, _++_}
 use lib.Dec.{ltb, eqb}
-use Rattle.filing.specs.Fields.{recordLength, placeOf}
-use Rattle.filing.specs.Outcomes.{ifDone, Test, when, firstRefusal}
-use Rattle.filing.specs.declared.Outcome.{Outcome}
-use Rattle.filing.specs.declared.Outcome.the-variants as outcome
+use Rattle.basics.specs.Fields.{recordLength, placeOf}
+use Rattle.basics.specs.Outcomes.{ifDone, Test, when, firstRefusal}
+use Rattle.basics.specs.declared.Outcome.{Outcome}
+use Rattle.basics.specs.declared.Outcome.the-variants as outcome
 use Rattle.files.specs.Files.{stations, tooLong, notRecords, placesOf, fieldAt, fieldCount}
 
 -- What every call on a file asks first: its length. Where it is wrong, 1 and 2 settle the call.

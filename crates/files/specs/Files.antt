@@ -4,7 +4,7 @@ use mathlib.Core.Bool.{Bool, not, _||_}
 use mathlib.Core.List.{List, _++_}
 use lib.ListN.{length, take, drop}
 use lib.Dec.{ltb, eqb}
-use Rattle.filing.specs.Fields.{recordLength, cut, at}
+use Rattle.basics.specs.Fields.{recordLength, cut, at}
 use Rattle.station.specs.Places.{stationPlaces}
 use Rattle.header.specs.Places.{headerPlaces}
 

@@ -3,10 +3,10 @@ use Prim.Native.Nat.{ℕ, _+_}
 use mathlib.Core.Path.{_≡_}
 use mathlib.Core.List.{List}
 use denote.Ref.{RefT, ptr, now}
-use Rattle.filing.specs.Fields.{placeOf}
-use Rattle.filing.specs.Outcomes.{firstRefusal}
-use Rattle.filing.specs.declared.Outcome.{Outcome}
-use Rattle.filing.specs.declared.Place.{Place}
+use Rattle.basics.specs.Fields.{placeOf}
+use Rattle.basics.specs.Outcomes.{firstRefusal}
+use Rattle.basics.specs.declared.Outcome.{Outcome}
+use Rattle.basics.specs.declared.Place.{Place}
 use Rattle.files.specs.Files.{stations, recordAt, recordOffset, placesOf}
 use Rattle.files.specs.Calls.{fileTests, showOutcome, shownField, shownOffset}
 

@@ -1,5 +1,5 @@
 // A file's length, and the records in it.
-use filing::Outcome;
+use basics::Outcome;
 ghost use Rattle.files.specs.Promises.{FileChecked, StationsCounted, RecordFound};
 
 // The bytes of a record, the most stations of a file, and the most bytes.

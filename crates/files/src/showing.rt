@@ -2,9 +2,9 @@
 use crate::lengths::check_file;
 use crate::lengths::record_in;
 use crate::lengths::stations_in;
-use filing::Outcome;
-use filing::Place;
-use filing::outcomes::is_done;
+use basics::Outcome;
+use basics::Place;
+use basics::outcomes::is_done;
 use header::places::header_place;
 use station::places::station_place;
 ghost use mathlib.Core.Path.{_≡_};

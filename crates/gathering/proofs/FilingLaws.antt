@@ -1,5 +1,4 @@
 -- A gathered line is filed, or refused, as the whole line is.
--- Assumes nothing.
 use mathlib.Core.Path.{_≡_, refl, sym, ap, _∙_}
 use mathlib.Core.Bool.{Bool, true, false, cond}
 use mathlib.Core.List.{List, [], _∷_}
@@ -10,16 +9,16 @@ use lib.ListN.{length, take}
 use lib.Seq.{take-all}
 use borrow.Author.Tests.{le-leb, lt-leb, leb-true, leb-false, eq-eqb, ne-eqb, eqb-true, eqb-false}
 use Rattle.columns.specs.Texts.{howMany, sized}
-use Rattle.filing.specs.Fields.{recordLength, joined}
+use Rattle.basics.specs.Fields.{recordLength, joined}
 use Rattle.station.specs.Places.{stationPlaces}
 use Rattle.lists.specs.Fields.{noneLonger}
 use Rattle.lists.specs.Lines.{isSemicolon, isFeed, lineFields, isLine, longestLine}
-use Rattle.filing.specs.Outcomes.{refusal, ifDone, firstRefusal, bufferTest}
-use Rattle.filing.proofs.RefusalLaws.{passes, stops}
+use Rattle.basics.specs.Outcomes.{refusal, ifDone, firstRefusal, bufferTest}
+use Rattle.basics.proofs.RefusalLaws.{passes, stops}
 use Rattle.lists.specs.Calls.{lineTests, lineOutcome, lineFiling, filedLine}
 use Rattle.lists.specs.Promises.{LineFiled}
-use Rattle.filing.specs.declared.Outcome.{Outcome}
-use Rattle.filing.specs.declared.Outcome.the-variants as outcome
+use Rattle.basics.specs.declared.Outcome.{Outcome}
+use Rattle.basics.specs.declared.Outcome.the-variants as outcome
 use Rattle.gathering.specs.Gathering.{room, keptOf, Holds, keptThrough, heldThrough}
 use Rattle.gathering.specs.Calls.{longOutcome, gatheredFiling, filedGathered}
 use Rattle.gathering.specs.Promises.{GatheredFiled}

@@ -1,5 +1,4 @@
 -- What is kept of a text is kept of it with a part behind it.
--- Assumes nothing.
 use mathlib.Core.Path.{_≡_, refl, sym, ap, _∙_}
 use mathlib.Core.Bool.{Bool}
 use mathlib.Core.List.{List, [], _∷_, _++_, append-assoc, append-nil}
@@ -8,7 +7,7 @@ use native.Mathlib.Omega.{arith}
 use lib.ListN.{length, length-append}
 use borrow.Author.Tests.{ne-eqb}
 use Rattle.columns.specs.Texts.{howMany}
-use Rattle.filing.specs.Fields.{joined}
+use Rattle.basics.specs.Fields.{joined}
 use Rattle.lists.specs.Lines.{isSemicolon, isFeed, lastByte}
 use Rattle.lists.proofs.LineLaws.{last-append}
 use Rattle.gathering.specs.Gathering.{room, keptOf, Holds, lastAfter, keptWith, holding, keptThrough, heldThrough}

@@ -1,5 +1,4 @@
 -- A part put behind the bytes that a buffer holds, as far as there is room.
--- Assumes nothing.
 use mathlib.Core.Path.{_≡_, refl, sym, ap, _∙_}
 use mathlib.Core.Bool.{Bool, true, false}
 use mathlib.Core.List.{List, [], _++_, append-nil}

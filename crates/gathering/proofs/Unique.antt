@@ -1,9 +1,8 @@
 -- The promises of the calls on a gathered line leave one answer, and one content of the lent bytes.
--- Assumes nothing.
 use mathlib.Core.Path.{_≡_, sym, _∙_}
 use mathlib.Core.List.{List}
 use Prim.Native.Nat.{ℕ}
-use Rattle.filing.specs.declared.Outcome.{Outcome}
+use Rattle.basics.specs.declared.Outcome.{Outcome}
 use Rattle.gathering.specs.Promises.{LineEnded, Begun, GoneOn, GatheredFiled}
 use Rattle.gathering.specs.declared.Gathered.{Gathered}
 

@@ -5,11 +5,11 @@ use mathlib.Core.List.{List}
 use lib.ListN.{take}
 use lib.Dec.{leb, eqb}
 use Rattle.columns.specs.Texts.{sized}
-use Rattle.filing.specs.Fields.{recordLength}
+use Rattle.basics.specs.Fields.{recordLength}
 use Rattle.lists.specs.Lines.{isFeed, longestLine}
 use Rattle.lists.specs.Calls.{lineFiling, filedLine}
-use Rattle.filing.specs.declared.Outcome.{Outcome}
-use Rattle.filing.specs.declared.Outcome.the-variants as outcome
+use Rattle.basics.specs.declared.Outcome.{Outcome}
+use Rattle.basics.specs.declared.Outcome.the-variants as outcome
 use Rattle.gathering.specs.declared.Gathered.{Gathered}
 
 -- A line of more than 249 bytes that has its marks has a field that is too long for its columns, 11; any other is not a line, 10.

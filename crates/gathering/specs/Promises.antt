@@ -3,7 +3,7 @@ use Prim.Native.Nat.{ℕ}
 use mathlib.Core.Path.{_≡_}
 use mathlib.Core.List.{List, []}
 use lib.ListN.{length}
-use Rattle.filing.specs.declared.Outcome.{Outcome}
+use Rattle.basics.specs.declared.Outcome.{Outcome}
 use Rattle.gathering.specs.Cutting.{firstLine}
 use Rattle.gathering.specs.Gathering.{keptOf, keptWith, holding}
 use Rattle.gathering.specs.Calls.{gatheredFiling, filedGathered}

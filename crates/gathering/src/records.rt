@@ -1,6 +1,6 @@
 // Filing a line that was gathered.
 use crate::Gathered;
-use filing::Outcome;
+use basics::Outcome;
 use lists::records::line_to_record;
 ghost use mathlib.Core.Path.{_≡_};
 ghost use lib.ListN.{take};

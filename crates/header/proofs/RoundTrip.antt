@@ -1,5 +1,4 @@
 -- A header and its record: what is written is read back, and what is read can be written.
--- Assumes nothing.
 use mathlib.Core.Path.{_≡_, refl, sym, ap, _∙_}
 use mathlib.Core.List.{List}
 use mathlib.Core.Bool.{true}
@@ -8,9 +7,9 @@ use lib.ListN.{length}
 use Rattle.columns.specs.Dates.{dateFits}
 use Rattle.fields.proofs.TripLaws.{spelt-kept, spelt-back}
 use Rattle.fields.proofs.TripLaws as trip
-use Rattle.filing.specs.Fields.{recordLength}
-use Rattle.filing.specs.Rules.{All}
-use Rattle.filing.proofs.RuleLaws.{all-hold, none-broken, rule}
+use Rattle.basics.specs.Fields.{recordLength}
+use Rattle.basics.specs.Rules.{All}
+use Rattle.basics.proofs.RuleLaws.{all-hold, none-broken, rule}
 use Rattle.header.specs.Table.{headerTable, headerValues, headerFrom}
 use Rattle.header.specs.Places.{header-tiles, headerFields}
 use Rattle.header.specs.Rules.{headerRules, typedHeaderRules}

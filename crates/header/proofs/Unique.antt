@@ -1,10 +1,9 @@
 -- The promises of the calls on headers leave one answer and one content of the lent bytes.
--- Assumes nothing.
 use mathlib.Core.Path.{_≡_, sym, _∙_}
 use mathlib.Core.List.{List}
 use Prim.Native.Nat.{ℕ}
-use Rattle.filing.specs.declared.Outcome.{Outcome}
-use Rattle.filing.specs.declared.Place.{Place}
+use Rattle.basics.specs.declared.Outcome.{Outcome}
+use Rattle.basics.specs.declared.Place.{Place}
 use Rattle.header.specs.Promises.{HeaderPlaced, HeaderChecked, HeaderFiled, HeaderJudged, HeaderEmpty, HeaderRead, HeaderWritten}
 use Rattle.header.specs.declared.Header.{Header}
 use Rattle.header.specs.declared.reading.ReadHeader.{ReadHeader}

@@ -1,8 +1,8 @@
 -- Document 01, "Refusal numbers": how the calls on headers end, and what they hand back and leave.
 use Prim.Native.Nat.{ℕ}
 use mathlib.Core.List.{List, [], _∷_}
-use Rattle.filing.specs.Outcomes.{ifDone, firstRefusal, recordTest, bufferTest, ruleTest}
-use Rattle.filing.specs.declared.Outcome.{Outcome}
+use Rattle.basics.specs.Outcomes.{ifDone, firstRefusal, recordTest, bufferTest, ruleTest}
+use Rattle.basics.specs.declared.Outcome.{Outcome}
 use Rattle.header.specs.Values.{emptyHeader}
 use Rattle.header.specs.Spelling.{spellHeader}
 use Rattle.header.specs.Codes.{headerValue, headerCode, typedHeaderCode, filedHeaderCode}

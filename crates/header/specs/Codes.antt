@@ -2,7 +2,7 @@
 use Prim.Native.Nat.{ℕ}
 use mathlib.Core.List.{List, [], _∷_, _++_}
 use lib.Dec.{eqb}
-use Rattle.filing.specs.Rules.{firstBroken}
+use Rattle.basics.specs.Rules.{firstBroken}
 use Rattle.header.specs.Places.{headerFields}
 use Rattle.header.specs.Rules.{headerRules, typedHeaderRules}
 use Rattle.header.specs.Values.{headerOf}

@@ -4,7 +4,7 @@ use mathlib.Core.Path.{_≡_, refl}
 use mathlib.Core.Bool.{true}
 use mathlib.Core.List.{List}
 use Rattle.fields.specs.Rows.{placesOf}
-use Rattle.filing.specs.Fields.{cut, tilesFrom}
+use Rattle.basics.specs.Fields.{cut, tilesFrom}
 use Rattle.header.specs.Table.{headerTable}
 
 -- First column and length of each field, by code.

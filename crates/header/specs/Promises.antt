@@ -2,9 +2,9 @@
 use Prim.Native.Nat.{ℕ}
 use mathlib.Core.Path.{_≡_}
 use mathlib.Core.List.{List}
-use Rattle.filing.specs.Fields.{placeOf}
-use Rattle.filing.specs.declared.Outcome.{Outcome}
-use Rattle.filing.specs.declared.Place.{Place}
+use Rattle.basics.specs.Fields.{placeOf}
+use Rattle.basics.specs.declared.Outcome.{Outcome}
+use Rattle.basics.specs.declared.Place.{Place}
 use Rattle.header.specs.Places.{headerPlaces}
 use Rattle.header.specs.Values.{emptyHeader}
 use Rattle.header.specs.Codes.{typedHeaderCode}

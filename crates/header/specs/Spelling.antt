@@ -2,7 +2,7 @@
 use Prim.Native.Nat.{ℕ}
 use mathlib.Core.List.{List}
 use Rattle.fields.specs.Rows.{speltOf}
-use Rattle.filing.specs.Fields.{joined}
+use Rattle.basics.specs.Fields.{joined}
 use Rattle.header.specs.Table.{headerTable, headerValues}
 use Rattle.header.specs.declared.Header.{Header}
 

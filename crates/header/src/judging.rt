@@ -1,18 +1,18 @@
 // The code of a header's record: its fields are judged in place, in the order of their codes.
 use crate::values::amount_in;
-use crate::values::is_filled;
+use crate::values::is_dated;
 use crate::values::is_letter;
 use crate::values::is_serial;
 use crate::values::is_whole;
+use basics::Outcome;
+use basics::outcomes::judged;
+use basics::rules::first_broken;
 use columns::sets::Set;
 use columns::texts::equal;
 use columns::texts::is_left_text;
-use filing::Outcome;
-use filing::outcomes::judged;
-use filing::rules::first_broken;
 ghost use mathlib.Core.Path.{_≡_};
 ghost use lib.ListN.{length, take, drop};
-ghost use Rattle.filing.specs.Rules.{firstBroken};
+ghost use Rattle.basics.specs.Rules.{firstBroken};
 ghost use Rattle.header.specs.Places.{headerFields};
 ghost use Rattle.header.specs.Rules.{headerRules};
 ghost use Rattle.header.specs.Codes.{headerCode, filedHeaderCode};
@@ -36,14 +36,14 @@ fn sender_code(rec: &[u8]) -> u8
 }
 
 // The first broken code of 8 to 14, the person, the count and how the file is filed; 0 means none.
-fn filing_code(rec: &[u8]) -> u8
+fn closing_code(rec: &[u8]) -> u8
     requires { ⌜ length (now rec) ≡ 219 ⌝ }
     ensures { λ r. ⌜ r ≡ firstBroken 8 (drop 7 (headerRules (headerFields (now (rec .entry))))) ⌝ }
 {
     let rules = [
         is_left_text(&rec[166..186], 20, Set::Text),
         is_whole(&rec[186..192]),
-        is_filled(&rec[192..200]),
+        is_dated(&rec[192..200]),
         equal(b"AUT", &rec[200..203]),
         is_serial(&rec[203..209]),
         equal(b"1.0", &rec[209..212]),
@@ -61,7 +61,7 @@ fn header_code(rec: &[u8]) -> u8
     if code != 0 {
         return code;
     }
-    filing_code(rec)
+    closing_code(rec)
 }
 
 // Whether a record of any length can be read as a header: 6, 9 with its code, 1 to 14, or done.

@@ -54,7 +54,7 @@ pub(crate) fn is_letter(s: &[u8]) -> bool
 }
 
 // Field 10: a date, which may not be blank.
-pub(crate) fn is_filled(s: &[u8]) -> bool
+pub(crate) fn is_dated(s: &[u8]) -> bool
     ensures { λ r. ⌜ r ≡ dateGood (now (s .entry)) ⌝ }
 {
     match read_date(s) {

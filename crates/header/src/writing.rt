@@ -3,6 +3,8 @@ use crate::Header;
 use crate::values::fits_date;
 use crate::values::fits_serial;
 use crate::values::is_o;
+use basics::Outcome;
+use basics::rules::first_broken;
 use columns::dates::write_day;
 use columns::numbers::fits_whole;
 use columns::numbers::put_whole;
@@ -13,14 +15,12 @@ use columns::texts::write_blank;
 use columns::texts::write_byte;
 use columns::texts::write_text;
 use fields::serials::Serial;
-use filing::Outcome;
-use filing::rules::first_broken;
 ghost use mathlib.Core.Path.{_≡_};
 ghost use mathlib.Core.Bool.{true};
 ghost use lib.ListN.{length, take, drop};
 ghost use Rattle.columns.specs.Dates.{dateFits};
-ghost use Rattle.filing.specs.Fields.{joined};
-ghost use Rattle.filing.specs.Rules.{firstBroken};
+ghost use Rattle.basics.specs.Fields.{joined};
+ghost use Rattle.basics.specs.Rules.{firstBroken};
 ghost use Rattle.header.specs.Rules.{typedHeaderRules};
 ghost use Rattle.fields.specs.Serials.{spellSerial};
 ghost use Rattle.header.specs.Spelling.{headerPieces, spellHeader};
@@ -49,7 +49,7 @@ fn typed_sender_code(h: Header) -> u8
 }
 
 // The first broken code of 8 to 14, the person, the count and how the file is filed; 0 means none.
-fn typed_filing_code(h: Header) -> u8
+fn typed_closing_code(h: Header) -> u8
     ensures { λ r. ⌜ r ≡ firstBroken 8 (drop 7 (typedHeaderRules h)) ⌝ }
 {
     let person = h.person;
@@ -78,7 +78,7 @@ pub fn typed_header_code(h: Header) -> u8
     if code != 0 {
         return code;
     }
-    typed_filing_code(h)
+    typed_closing_code(h)
 }
 
 // Field 12, a number or blank.

@@ -3,9 +3,9 @@
 mod telling;
 
 use crate::telling::tell_reason;
-use filing::outcomes::code_with;
-use filing::outcomes::is_done;
-use filing::outcomes::refusal_number;
+use basics::outcomes::code_with;
+use basics::outcomes::is_done;
+use basics::outcomes::refusal_number;
 use gathering::Gathered;
 use gathering::cutting::line_end;
 use gathering::lines::gather;

@@ -1,11 +1,11 @@
 // Lists out: reads a filing file from standard input and prints its stations as lines of a semicolon list.
 use files::lengths::MOST_BYTES;
 use intake::read_input;
-use report::listing::write_list;
+use printing::listing::write_list;
 ghost use mathlib.Core.Path.{_≡_};
 ghost use Prim.Native.Nat.{_+_, _*_};
 ghost use lib.ListN.{length};
-ghost use Rattle.filing.specs.Fields.{recordLength};
+ghost use Rattle.basics.specs.Fields.{recordLength};
 ghost use Rattle.files.specs.Files.{mostStations};
 
 // The bytes of the longest file and one more, so that a longer one is told from it.

@@ -1,5 +1,4 @@
 -- How a call on a line ends, by the tests that it passes.
--- Assumes nothing.
 use mathlib.Core.Path.{_≡_, refl, sym, ap, _∙_}
 use mathlib.Core.Bool.{true, false}
 use mathlib.Core.List.{List, _++_}
@@ -8,9 +7,9 @@ use lib.Dec.{leb, eqb}
 use lib.ListN.{length, take, drop}
 use lib.Seq.{length-take-le}
 use borrow.Author.Tests.{eq-eqb, ne-eqb, lt-leb}
-use Rattle.filing.specs.Fields.{recordLength}
-use Rattle.filing.specs.Outcomes.{refusal, ifDone, firstRefusal}
-use Rattle.filing.specs.declared.Outcome.{Outcome}
+use Rattle.basics.specs.Fields.{recordLength}
+use Rattle.basics.specs.Outcomes.{refusal, ifDone, firstRefusal}
+use Rattle.basics.specs.declared.Outcome.{Outcome}
 use Rattle.station.specs.Places.{stationPlaces}
 use Rattle.station.specs.Values.{emptyStation}
 use Rattle.station.specs.Codes.{valueOf, stationCode, typedCode}
@@ -20,7 +19,7 @@ use Rattle.station.specs.declared.Station.{Station}
 use Rattle.lists.specs.Fields.{noneLonger}
 use Rattle.lists.specs.Lines.{lineOf, lineFields, isLine, recordOf}
 use Rattle.lists.specs.Calls.{lineOutcome, stationInLine, writeLineOutcome, lineLength, writtenLine}
-use Rattle.filing.specs.declared.Outcome.the-variants as outcome
+use Rattle.basics.specs.declared.Outcome.the-variants as outcome
 use Rattle.lists.proofs.RoundTrip.{write-done}
 use Rattle.lists.proofs.Reading.{record-length}
 

@@ -1,4 +1,4 @@
--- The examples hold, computed from the definitions. Assumes nothing.
+-- The examples hold, computed from the definitions.
 use mathlib.Core.Path.{refl}
 use Rattle.lists.specs.Fields.{trimmedField, paddedField}
 use Rattle.columns.specs.Texts.{trimmed, skip, howMany}

@@ -1,5 +1,4 @@
 -- Each kind of field of a station is spelled with its spaces on its padding side and without a mark.
--- Assumes nothing.
 use mathlib.Core.Path.{_≡_, refl, sym, ap, _∙_}
 use mathlib.Core.Bool.{Bool, true, false, cond, not, _&&_, false≢true, and-true}
 use mathlib.Core.List.{List, [], _∷_}

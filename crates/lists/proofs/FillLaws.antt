@@ -1,5 +1,4 @@
 -- A field put into blank columns, and the fields of a line put into a record one after the other.
--- Assumes nothing.
 use mathlib.Core.Path.{_≡_, refl, sym, ap, _∙_}
 use mathlib.Core.Bool.{true, false, cond}
 use mathlib.Core.List.{List, [], _∷_, _++_, append-assoc, append-nil}
@@ -13,7 +12,7 @@ use lib.Seq.{take-at, drop-at, drop-cons, drop-drop, length-take-le, take-all}
 use borrow.Author.Tests.{eq-eqb, le-leb, lt-leb, ltb-true}
 use Rattle.columns.specs.Texts.{every}
 use Rattle.columns.proofs.TextLaws.{and-split}
-use Rattle.filing.specs.Fields.{joined}
+use Rattle.basics.specs.Fields.{joined}
 use Rattle.lists.specs.Fields.{missing, paddedField, spacesBefore, paddedFields, noneLonger}
 use Rattle.lists.specs.Lines.{before, behind, split}
 use Rattle.lists.specs.declared.Side.{Side}

@@ -1,5 +1,4 @@
 -- Each kind of field is spelled with its spaces on its padding side and without a mark, and so are the fields of a table.
--- Assumes nothing.
 use mathlib.Core.Path.{_≡_, subst}
 use mathlib.Core.Bool.{Bool, true, false, not, _&&_, false≢true}
 use mathlib.Core.List.{List, [], _∷_}
@@ -13,7 +12,7 @@ use Rattle.fields.specs.Kinds.{TextRule, places, word, leftText, literal, emiss
 use Rattle.fields.specs.Rows.{Row, Values, placesOf, fitsOf, speltOf}
 use Rattle.fields.proofs.KindLaws.{asWide, lawful, text-wide}
 use Rattle.fields.proofs.RowLaws.{sound, row-sound}
-use Rattle.filing.specs.Rules.{All}
+use Rattle.basics.specs.Rules.{All}
 use Rattle.lists.specs.Fields.{sideOf, sidesOf}
 use Rattle.lists.specs.declared.Side.{Side}
 use Rattle.lists.specs.declared.Side.the-variants as side

@@ -1,5 +1,4 @@
 -- Fields joined to a line are found in it again, and the line has its marks, over any fields that hold none.
--- Assumes nothing.
 use mathlib.Core.Path.{_≡_, refl, ap, _∙_}
 use mathlib.Core.Bool.{Bool, true, false, not, _||_, false≢true}
 use mathlib.Core.List.{List, [], _∷_, _++_}

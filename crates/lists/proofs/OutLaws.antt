@@ -1,5 +1,4 @@
 -- The fields of a record put into a line one after the other, each with the mark behind it.
--- Assumes nothing.
 use mathlib.Core.Path.{_≡_, refl, sym, ap, _∙_}
 use mathlib.Core.Bool.{true, cond}
 use mathlib.Core.List.{List, [], _∷_, _++_, append-assoc, append-nil}
@@ -12,7 +11,7 @@ use lib.ListN.{length, getD, take, drop, set, length-append, length-drop, drop-o
 use lib.Seq.{take-at, drop-cons, length-take-le, take-suc-set}
 use borrow.Author.Tests.{eq-eqb, ne-eqb, eqb-true}
 use Rattle.columns.proofs.TextLaws.{and-split}
-use Rattle.filing.specs.Fields.{piece, cut, tilesFrom}
+use Rattle.basics.specs.Fields.{piece, cut, tilesFrom}
 use Rattle.lists.specs.Fields.{trimmedField, trimmedFields}
 use Rattle.lists.specs.Lines.{joinedLine}
 use Rattle.lists.specs.declared.Side.{Side}

@@ -1,5 +1,4 @@
 -- A field that has its columns' width, its spaces on its padding side and no mark in it, and what follows for a line of such fields.
--- Assumes nothing.
 use mathlib.Core.Path.{_≡_, refl, sym, ap, _∙_}
 use mathlib.Core.Bool.{Bool, true, false, cond, not, _&&_, false≢true}
 use mathlib.Core.List.{List, [], _∷_, _++_}
@@ -13,7 +12,7 @@ use Rattle.columns.specs.Texts.{skip, blank, trimmed, every}
 use Rattle.columns.specs.Numbers.{spellDigits}
 use Rattle.columns.proofs.TextLaws.{and-split, and-both, cond-case}
 use Rattle.columns.proofs.RoundTrip.{digit-is}
-use Rattle.filing.proofs.FieldLaws.{Wide}
+use Rattle.basics.proofs.FieldLaws.{Wide}
 use Rattle.lists.specs.Fields.{trimmedField, trimmedFields, paddedFields, noneLonger}
 use Rattle.lists.specs.declared.Side.{Side}
 use Rattle.lists.specs.declared.Side.the-variants as side

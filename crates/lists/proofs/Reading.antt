@@ -1,5 +1,4 @@
 -- What is read from a line that is not refused: a record of 219 bytes, and a station that breaks no rule.
--- Assumes nothing.
 use mathlib.Core.Path.{_≡_, refl, ap}
 use mathlib.Core.Bool.{Bool, true, false}
 use mathlib.Core.List.{List, [], _∷_}
@@ -9,9 +8,9 @@ use lib.Dec.{leb, eqb}
 use lib.ListN.{length, length-append, length-replicate}
 use borrow.Author.Tests.{eqb-true, leb-true, not-false}
 use Rattle.columns.proofs.TextLaws.{and-split}
-use Rattle.filing.specs.Fields.{recordLength, joined}
-use Rattle.filing.specs.Outcomes.{refusal, ifDone}
-use Rattle.filing.proofs.RefusalLaws.{done, none-applies}
+use Rattle.basics.specs.Fields.{recordLength, joined}
+use Rattle.basics.specs.Outcomes.{refusal, ifDone}
+use Rattle.basics.proofs.RefusalLaws.{done, none-applies}
 use Rattle.station.specs.Places.{stationPlaces}
 use Rattle.station.specs.Codes.{valueOf, stationCode, typedCode}
 use Rattle.station.proofs.RoundTrip.{read-fits}
@@ -20,7 +19,7 @@ use Rattle.lists.specs.Lines.{lineOf, split, lineFields, isLine, recordO
 use Rattle.lists.specs.Calls.{lineTests, lineOutcome, stationInLine}
 use Rattle.lists.specs.declared.Side.{Side}
 use Rattle.lists.specs.declared.Side.the-variants as side
-use Rattle.filing.specs.declared.Outcome.the-variants as outcome
+use Rattle.basics.specs.declared.Outcome.the-variants as outcome
 use Rattle.lists.proofs.RoundTrip.{line-back}
 
 -- a field that is not too long is padded to its columns

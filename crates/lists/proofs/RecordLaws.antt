@@ -1,5 +1,4 @@
 -- How listing a record and filing a line end, by the tests that they pass.
--- Assumes nothing.
 use mathlib.Core.Path.{_≡_, refl, sym, ap, _∙_}
 use mathlib.Core.Bool.{true, false}
 use mathlib.Core.List.{List, [], _∷_}
@@ -7,12 +6,12 @@ use Prim.Native.Nat.{ℕ}
 use lib.Dec.{eqb}
 use lib.ListN.{length}
 use borrow.Author.Tests.{eq-eqb, ne-eqb}
-use Rattle.filing.specs.Fields.{recordLength}
-use Rattle.filing.specs.Outcomes.{refusal, ifDone, Test, firstRefusal, recordTest, ruleTest}
-use Rattle.filing.specs.declared.Outcome.{Outcome}
-use Rattle.filing.specs.declared.Outcome.the-variants as outcome
-use Rattle.filing.proofs.RefusalLaws.{done, done-is, if-done, if-refused, passes, ended-there}
-use Rattle.filing.proofs.CallLaws.{accepted}
+use Rattle.basics.specs.Fields.{recordLength}
+use Rattle.basics.specs.Outcomes.{refusal, ifDone, Test, firstRefusal, recordTest, ruleTest}
+use Rattle.basics.specs.declared.Outcome.{Outcome}
+use Rattle.basics.specs.declared.Outcome.the-variants as outcome
+use Rattle.basics.proofs.RefusalLaws.{done, done-is, if-done, if-refused, passes, ended-there}
+use Rattle.basics.proofs.CallLaws.{accepted}
 use Rattle.station.specs.Values.{emptyStation}
 use Rattle.station.specs.Codes.{valueOf, stationCode, typedCode}
 use Rattle.station.specs.Spelling.{spellStation}

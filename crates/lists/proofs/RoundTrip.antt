@@ -1,5 +1,4 @@
 -- A station and its line: what is written is read back.
--- Assumes nothing.
 use mathlib.Core.Path.{_≡_, refl, sym, ap, _∙_}
 use mathlib.Core.Bool.{Bool, true, false, not, cond}
 use mathlib.Core.List.{List, [], _∷_, _++_}
@@ -12,10 +11,10 @@ use borrow.Author.Tests.{eq-eqb, le-leb, leb-true}
 use Rattle.columns.specs.Texts.{howMany, every}
 use Rattle.fields.specs.Table.{stationTable}
 use Rattle.columns.specs.Sets.{among, isName, isText, isNarrow}
-use Rattle.filing.specs.Fields.{cut, joined}
-use Rattle.filing.specs.Rules.{All}
-use Rattle.filing.proofs.FieldLaws.{cut-joined}
-use Rattle.filing.proofs.RuleLaws.{all-hold, all-front}
+use Rattle.basics.specs.Fields.{cut, joined}
+use Rattle.basics.specs.Rules.{All}
+use Rattle.basics.proofs.FieldLaws.{cut-joined}
+use Rattle.basics.proofs.RuleLaws.{all-hold, all-front}
 use Rattle.station.specs.Places.{stationPlaces, fieldsOf}
 use Rattle.station.specs.Members.{valuesOf}
 use Rattle.station.specs.Rules.{typedRules}
@@ -26,9 +25,9 @@ use Rattle.station.specs.declared.Station.{Station}
 use Rattle.station.proofs.RoundTrip.{write-keeps, read-back}
 use Rattle.lists.specs.Fields.{stationSides, trimmedFields, noneLonger}
 use Rattle.lists.specs.Lines.{isSemicolon, isFeed, joinedLine, lineOf, lineFields, lastByte, isLine, recordOf}
-use Rattle.filing.specs.Outcomes.{refusal, ifDone, firstRefusal}
+use Rattle.basics.specs.Outcomes.{refusal, ifDone, firstRefusal}
 use Rattle.lists.specs.Calls.{lineOutcome, stationInLine, writeLineOutcome, lineLength, writtenLine}
-use Rattle.filing.specs.declared.Outcome.the-variants as outcome
+use Rattle.basics.specs.declared.Outcome.the-variants as outcome
 use Rattle.lists.proofs.LineLaws.{AllPlain, split-joined, semicolons, one-feed, feed-last}
 use Rattle.lists.proofs.PieceLaws.{Pieces, pieces-wide, pieces-plain, pieces-short, pieces-back}
 use Rattle.lists.proofs.KindPieces.{table-pieces}

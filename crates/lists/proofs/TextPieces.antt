@@ -1,5 +1,4 @@
 -- Each field that is kept as its bytes stands on its padding side and holds no mark where it keeps its rule.
--- Assumes nothing.
 use mathlib.Core.Path.{_≡_, refl, sym, ap, _∙_}
 use mathlib.Core.Bool.{Bool, true, false, cond, not, _&&_, _||_, false≢true}
 use mathlib.Core.List.{List, [], _∷_, _++_}

@@ -1,14 +1,13 @@
 -- The promises of the calls on a line leave one answer, and one content of the lent bytes.
--- Assumes nothing.
 use mathlib.Core.Path.{_≡_, sym, _∙_}
 use mathlib.Core.Bool.{Bool}
 use mathlib.Core.List.{List}
 use Prim.Native.Nat.{ℕ}
 use lib.Dec.{eqb}
 use Rattle.station.specs.declared.Station.{Station}
-use Rattle.filing.specs.Outcomes.{refusal, codeWith}
+use Rattle.basics.specs.Outcomes.{refusal, codeWith}
 use Rattle.lists.specs.Promises.{LineRead, LineWritten, RecordListed, LineFiled}
-use Rattle.filing.specs.declared.Outcome.{Outcome}
+use Rattle.basics.specs.declared.Outcome.{Outcome}
 use Rattle.lists.specs.declared.reading_lines.ReadLine.{ReadLine}
 use Rattle.lists.specs.declared.writing_lines.WrittenLine.{WrittenLine}
 

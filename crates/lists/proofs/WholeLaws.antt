@@ -1,5 +1,4 @@
 -- A whole list: it is taken apart where it was put together, and brings in the stations that went out.
--- Assumes nothing.
 use mathlib.Core.Path.{_≡_, refl, sym, ap, _∙_}
 use mathlib.Core.Bool.{Bool, true, false}
 use mathlib.Core.List.{List, [], _∷_, _++_, append-assoc}
@@ -13,7 +12,7 @@ use Rattle.station.specs.Codes.{typedCode}
 use Rattle.station.specs.Spelling.{spellStation}
 use Rattle.station.specs.declared.Station.{Station}
 use Rattle.lists.specs.Lines.{isFeed, lineOf, lastByte}
-use Rattle.filing.specs.Outcomes.{refusal, ifDone}
+use Rattle.basics.specs.Outcomes.{refusal, ifDone}
 use Rattle.lists.specs.Whole.{linesFrom, linesOf, broughtIn, recordsOf}
 use Rattle.lists.proofs.LineLaws.{last-cons}
 use Rattle.lists.proofs.RoundTrip.{line-done, line-back}

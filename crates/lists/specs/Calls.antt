@@ -4,9 +4,9 @@ use mathlib.Core.Bool.{not}
 use mathlib.Core.List.{List, [], _∷_, _++_}
 use lib.ListN.{length, drop}
 use lib.Dec.{leb}
-use Rattle.filing.specs.Outcomes.{ifDone, Test, when, firstRefusal, recordTest, bufferTest, ruleTest}
-use Rattle.filing.specs.declared.Outcome.{Outcome}
-use Rattle.filing.specs.declared.Outcome.the-variants as outcome
+use Rattle.basics.specs.Outcomes.{ifDone, Test, when, firstRefusal, recordTest, bufferTest, ruleTest}
+use Rattle.basics.specs.declared.Outcome.{Outcome}
+use Rattle.basics.specs.declared.Outcome.the-variants as outcome
 use Rattle.station.specs.Places.{stationPlaces}
 use Rattle.station.specs.Values.{emptyStation}
 use Rattle.station.specs.Codes.{valueOf, stationCode, typedCode}
@@ -58,7 +58,7 @@ listedLength r buffer = ifDone (recordListing r buffer) (length (lineOf (valueOf
 unfoldable pub listedRecord : List ℕ → List ℕ → List ℕ
 listedRecord r buffer = ifDone (recordListing r buffer) (lineOf (valueOf r) ++ drop (length (lineOf (valueOf r))) buffer) buffer
 
--- Filing a line as a record asks 7, and then what reading it asks.
+-- Coordination a line as a record asks 7, and then what reading it asks.
 unfoldable pub lineFiling : List ℕ → List ℕ → Outcome
 lineFiling t out = firstRefusal (bufferTest out ∷ lineTests t)
 

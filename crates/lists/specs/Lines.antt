@@ -6,7 +6,7 @@ use lib.ListN.{length, getD}
 use lib.Dec.{eqb}
 use Rattle.columns.specs.Sets.{is}
 use Rattle.columns.specs.Texts.{howMany}
-use Rattle.filing.specs.Fields.{joined}
+use Rattle.basics.specs.Fields.{joined}
 use Rattle.station.specs.Places.{stationPlaces}
 use Rattle.station.specs.Spelling.{stationPieces}
 use Rattle.station.specs.declared.Station.{Station}

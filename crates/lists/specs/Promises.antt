@@ -4,7 +4,7 @@ use mathlib.Core.Path.{_≡_}
 use mathlib.Core.List.{List}
 use Rattle.station.specs.declared.Station.{Station}
 use Rattle.lists.specs.Calls.{lineOutcome, stationInLine, writeLineOutcome, lineLength, writtenLine, recordListing, listedLength, listedRecord, lineFiling, filedLine}
-use Rattle.filing.specs.declared.Outcome.{Outcome}
+use Rattle.basics.specs.declared.Outcome.{Outcome}
 use Rattle.lists.specs.declared.reading_lines.ReadLine.{ReadLine}
 use Rattle.lists.specs.declared.writing_lines.WrittenLine.{WrittenLine}
 

@@ -5,7 +5,7 @@ use mathlib.Core.List.{List, [], _∷_, _++_}
 use Rattle.columns.specs.Texts.{ended}
 use Rattle.station.specs.Spelling.{spellStation}
 use Rattle.lists.specs.Lines.{isFeed}
-use Rattle.filing.specs.Outcomes.{ifDone}
+use Rattle.basics.specs.Outcomes.{ifDone}
 use Rattle.lists.specs.Calls.{lineOutcome, stationInLine}
 
 -- The lines of a text that goes on a line begun by p: each ends with its line feed, and what stands behind the last one is a line too,

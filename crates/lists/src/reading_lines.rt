@@ -5,7 +5,7 @@ use crate::padding::width_after;
 use crate::splitting::field_at;
 use crate::splitting::is_line;
 use crate::splitting::past;
-use filing::Outcome;
+use basics::Outcome;
 use reading::typed::empty_station;
 use reading::typed::read_station;
 use station::Station;

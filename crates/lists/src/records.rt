@@ -2,8 +2,8 @@
 use crate::reading_lines::read_line;
 use crate::writing_lines::WrittenLine;
 use crate::writing_lines::write_accepted;
-use filing::Outcome;
-use filing::outcomes::is_done;
+use basics::Outcome;
+use basics::outcomes::is_done;
 use reading::typed::read_station;
 use writing::write_station;
 ghost use Rattle.lists.specs.Promises.{RecordListed, LineFiled};

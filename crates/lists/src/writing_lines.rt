@@ -4,7 +4,7 @@ use crate::padding::put_text;
 use crate::padding::side_after;
 use crate::padding::width_after;
 use crate::trimming::trimmed_part;
-use filing::Outcome;
+use basics::Outcome;
 use station::Station;
 use station::typed::typed_code;
 use writing::write_station;

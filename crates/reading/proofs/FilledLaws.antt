@@ -1,5 +1,4 @@
 -- Where a field keeps its rule, its value is filled exactly where its columns are not blank.
--- Assumes nothing.
 use mathlib.Core.Path.{_≡_, refl, sym, ap, _∙_}
 use mathlib.Core.Bool.{Bool, true, false, cond, not, false≢true}
 use mathlib.Core.List.{List}

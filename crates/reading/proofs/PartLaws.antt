@@ -1,5 +1,4 @@
 -- Fields of a record as the code takes them.
--- Assumes nothing.
 use mathlib.Core.Path.{_≡_}
 use mathlib.Core.Bool.{Bool, and-true}
 use mathlib.Core.List.{List}

@@ -1,9 +1,8 @@
 -- The promises of the calls on a station's record leave one answer.
--- Assumes nothing.
 use mathlib.Core.Path.{_≡_, sym, _∙_}
 use mathlib.Core.List.{List}
 use Prim.Native.Nat.{ℕ}
-use Rattle.filing.specs.declared.Outcome.{Outcome}
+use Rattle.basics.specs.declared.Outcome.{Outcome}
 use Rattle.station.specs.declared.Station.{Station}
 use Rattle.reading.specs.Promises.{StationChecked, StationRead, StationEmpty}
 use Rattle.reading.specs.declared.typed.ReadStation.{ReadStation}

@@ -1,4 +1,7 @@
 // The code of a station's record, read in place: the first broken rule, 1 to 30 and then 31 to 39.
+use basics::Outcome;
+use basics::outcomes::judged;
+use basics::rules::first_broken;
 use columns::dates::Dated;
 use columns::dates::read_date;
 use columns::decimals::Format;
@@ -26,9 +29,6 @@ use fields::positions::Located;
 use fields::positions::read_position;
 use fields::remarks::is_remarks;
 use fields::tenths::is_tenths;
-use filing::Outcome;
-use filing::outcomes::judged;
-use filing::rules::first_broken;
 use station::between::is_repeater_name;
 use station::between::is_round;
 use station::between::never_both;
@@ -38,9 +38,9 @@ ghost use mathlib.Core.Bool.{not};
 ghost use Rattle.columns.specs.Dates.{dayGood};
 ghost use Rattle.columns.specs.Texts.{blank};
 ghost use Rattle.fields.specs.Positions.{positionGood};
-ghost use Rattle.filing.specs.Rules.{All, firstBroken};
+ghost use Rattle.basics.specs.Rules.{All, firstBroken};
 ghost use Rattle.station.specs.Places.{fieldsOf};
-ghost use Rattle.station.specs.Groups.{firstBetween, lastBetween, channelFields, siteFields, emissionFields, antennaFields, filingFields};
+ghost use Rattle.station.specs.Groups.{firstBetween, lastBetween, channelFields, siteFields, emissionFields, antennaFields, coordinationFields};
 ghost use Rattle.station.specs.Codes.{valueOf, stationCode};
 ghost use Rattle.station.specs.Rules.{fieldRules};
 ghost use Rattle.reading.specs.Promises.{StationChecked};
@@ -130,9 +130,9 @@ fn antenna_code(rec: &[u8]) -> u8
 }
 
 // Rules 24 to 30.
-fn filing_code(rec: &[u8]) -> u8
+fn coordination_code(rec: &[u8]) -> u8
     requires { ⌜ length (now rec) ≡ 219 ⌝ }
-    ensures { λ r. ⌜ r ≡ firstBroken 24 (filingFields (fieldsOf (now (rec .entry)))) ⌝ }
+    ensures { λ r. ⌜ r ≡ firstBroken 24 (coordinationFields (fieldsOf (now (rec .entry)))) ⌝ }
 {
     let rules = [
         is_amount(&rec[125..136]),
@@ -167,7 +167,7 @@ fn field_code(rec: &[u8]) -> u8
     if antenna != 0 {
         return antenna;
     }
-    filing_code(rec)
+    coordination_code(rec)
 }
 
 // Not all spaces.

@@ -1,5 +1,7 @@
 // A station read from its record.
 use crate::judging::check_station;
+use basics::Outcome;
+use basics::outcomes::is_done;
 use columns::dates::Day;
 use columns::dates::day_in;
 use columns::decimals::Format;
@@ -23,19 +25,17 @@ use fields::positions::Position;
 use fields::positions::read_position;
 use fields::tenths::Tenths;
 use fields::tenths::read_tenths;
-use filing::Outcome;
-use filing::outcomes::is_done;
 use station::Antenna;
 use station::Channel;
+use station::Coordination;
 use station::Emission;
-use station::Filing;
 use station::Site;
 use station::Station;
 ghost use mathlib.Core.Path.{_≡_};
 ghost use mathlib.Core.Bool.{true};
 ghost use lib.ListN.{length};
 ghost use Rattle.fields.specs.Positions.{positionGood, positionOf};
-ghost use Rattle.filing.specs.Rules.{All};
+ghost use Rattle.basics.specs.Rules.{All};
 ghost use Rattle.station.specs.Places.{fieldsOf};
 ghost use Rattle.station.specs.Rules.{fieldRules};
 ghost use Rattle.station.specs.Codes.{valueOf};
@@ -139,9 +139,9 @@ fn antenna_in(rec: &[u8]) -> Antenna
 }
 
 // What is received, and how it was filed, as the record says it.
-fn filing_in(rec: &[u8]) -> Filing
+fn coordination_in(rec: &[u8]) -> Coordination
     requires { ⌜ length (now rec) ≡ 219 ⌝ }
-    ensures { λ r. ⌜ r ≡ valueOf (now (rec .entry)) .filing ⌝ }
+    ensures { λ r. ⌜ r ≡ valueOf (now (rec .entry)) .coordination ⌝ }
 {
     let receive = read_frequency(&rec[125..136], &rec[136..137]);
     let remarks = text50(&rec[137..187]);
@@ -149,7 +149,7 @@ fn filing_in(rec: &[u8]) -> Filing
     let requested = day_in(&rec[188..196]);
     let coordinated = day_in(&rec[196..204]);
     let reference = text15(&rec[204..219]);
-    Filing {
+    Coordination {
         receive,
         remarks,
         status,
@@ -169,7 +169,7 @@ fn station_in(rec: &[u8]) -> Station
         site: site_in(rec),
         emission: emission_in(rec),
         antenna: antenna_in(rec),
-        filing: filing_in(rec),
+        coordination: coordination_in(rec),
     }
 }
 
@@ -208,7 +208,7 @@ pub fn empty_station() -> Station
             horizontal: [b' '; 7],
             vertical: [b' '; 7],
         },
-        filing: Filing {
+        coordination: Coordination {
             receive: Frequency::Blank,
             remarks: [b' '; 50],
             status: b'F',

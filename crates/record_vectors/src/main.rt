@@ -1,6 +1,6 @@
 // Runs record vectors: S is a station's record, H a header's, and h a header's in a file of two stations. Prints for each
 // the refusal's number, and with 9 its code.
-use filing::Outcome;
+use basics::Outcome;
 
 // Writes to standard output.
 fn put(s: &[u8]) {

@@ -5,12 +5,12 @@ use mathlib.Core.List.{List, [], _∷_}
 use Prim.Native.Nat.{ℕ}
 use lib.ListN.{length}
 use borrow.Author.Tests.{eq-eqb, eqb-true, not-false}
-use Rattle.filing.specs.Fields.{recordLength}
-use Rattle.filing.specs.Outcomes.{refusal, ifDone, firstRefusal, recordTest, ruleTest, judged}
-use Rattle.filing.specs.declared.Outcome.{Outcome}
-use Rattle.filing.specs.declared.Outcome.the-variants as outcome
-use Rattle.filing.proofs.RefusalLaws.{done, done-is, if-done, if-refused, none-left, NoneApplies, none-applies, asked-on, ended-there}
-use Rattle.filing.proofs.CallLaws.{accepted}
+use Rattle.basics.specs.Fields.{recordLength}
+use Rattle.basics.specs.Outcomes.{refusal, ifDone, firstRefusal, recordTest, ruleTest, judged}
+use Rattle.basics.specs.declared.Outcome.{Outcome}
+use Rattle.basics.specs.declared.Outcome.the-variants as outcome
+use Rattle.basics.proofs.RefusalLaws.{done, done-is, if-done, if-refused, none-left, NoneApplies, none-applies, asked-on, ended-there}
+use Rattle.basics.proofs.CallLaws.{accepted}
 use Rattle.station.specs.Values.{emptyStation}
 use Rattle.station.specs.Spelling.{spellStation}
 use Rattle.station.specs.Codes.{valueOf, stationCode, typedCode}

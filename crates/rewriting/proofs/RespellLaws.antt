@@ -5,12 +5,12 @@ use mathlib.Core.List.{List, [], _∷_}
 use Prim.Native.Nat.{ℕ}
 use lib.ListN.{length}
 use borrow.Author.Tests.{eq-eqb, eqb-true, not-false}
-use Rattle.filing.specs.Fields.{recordLength}
-use Rattle.filing.specs.Outcomes.{refusal, ifDone, Test, firstRefusal, recordTest, bufferTest, ruleTest}
-use Rattle.filing.specs.declared.Outcome.{Outcome}
-use Rattle.filing.specs.declared.Outcome.the-variants as outcome
-use Rattle.filing.proofs.RefusalLaws.{done, if-done, if-refused, passes, none-left, NoneApplies, none-applies, asked-on, ended-there}
-use Rattle.filing.proofs.CallLaws.{ending, accepted}
+use Rattle.basics.specs.Fields.{recordLength}
+use Rattle.basics.specs.Outcomes.{refusal, ifDone, Test, firstRefusal, recordTest, bufferTest, ruleTest}
+use Rattle.basics.specs.declared.Outcome.{Outcome}
+use Rattle.basics.specs.declared.Outcome.the-variants as outcome
+use Rattle.basics.proofs.RefusalLaws.{done, if-done, if-refused, passes, none-left, NoneApplies, none-applies, asked-on, ended-there}
+use Rattle.basics.proofs.CallLaws.{ending, accepted}
 use Rattle.rewriting.specs.Records.{respelling}
 
 -- A record and a buffer of the right length.

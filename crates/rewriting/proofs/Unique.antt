@@ -2,7 +2,7 @@
 use mathlib.Core.Path.{_≡_, sym, _∙_}
 use mathlib.Core.List.{List}
 use Prim.Native.Nat.{ℕ}
-use Rattle.filing.specs.declared.Outcome.{Outcome}
+use Rattle.basics.specs.declared.Outcome.{Outcome}
 use Rattle.station.specs.declared.Station.{Station}
 use Rattle.rewriting.specs.Promises.{StationRespelled, HeaderRespelled, RecordChanged}
 

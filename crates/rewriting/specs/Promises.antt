@@ -2,8 +2,8 @@
 use Prim.Native.Nat.{ℕ}
 use mathlib.Core.Path.{_≡_}
 use mathlib.Core.List.{List}
-use Rattle.filing.specs.Outcomes.{ifDone}
-use Rattle.filing.specs.declared.Outcome.{Outcome}
+use Rattle.basics.specs.Outcomes.{ifDone}
+use Rattle.basics.specs.declared.Outcome.{Outcome}
 use Rattle.station.specs.Calls.{writeOutcome, writtenStation}
 use Rattle.station.specs.declared.Station.{Station}
 use Rattle.station.specs.declared.setting.Settled.{Settled}

@@ -1,8 +1,8 @@
 -- Document 01, "Refusal numbers", for a record that is written anew: how the calls end, and what they leave in the lent bytes.
 use Prim.Native.Nat.{ℕ}
 use mathlib.Core.List.{List, [], _∷_}
-use Rattle.filing.specs.Outcomes.{ifDone, firstRefusal, recordTest, bufferTest, ruleTest}
-use Rattle.filing.specs.declared.Outcome.{Outcome}
+use Rattle.basics.specs.Outcomes.{ifDone, firstRefusal, recordTest, bufferTest, ruleTest}
+use Rattle.basics.specs.declared.Outcome.{Outcome}
 use Rattle.station.specs.Spelling.{spellStation}
 use Rattle.station.specs.Codes.{valueOf, stationCode, typedCode}
 use Rattle.station.specs.declared.Station.{Station}

@@ -1,14 +1,14 @@
 // A record in its one spelling.
+use basics::Outcome;
+use basics::outcomes::is_done;
 use files::lengths::RECORD_LENGTH;
-use filing::Outcome;
-use filing::outcomes::is_done;
 use header::reading::read_header;
 use header::writing::write_header;
 use reading::typed::read_station;
 use writing::write_station;
 ghost use mathlib.Core.Path.{_≡_};
 ghost use mathlib.Core.List.{[], _∷_};
-ghost use Rattle.filing.specs.Outcomes.{firstRefusal, recordTest, bufferTest};
+ghost use Rattle.basics.specs.Outcomes.{firstRefusal, recordTest, bufferTest};
 ghost use Rattle.rewriting.specs.Promises.{StationRespelled, HeaderRespelled};
 
 // Whether a record and a buffer have a record's length: 6, then 7, or done.

@@ -1,5 +1,4 @@
 -- How judging and replacing end: what no refusal tells, and what each leaves.
--- Assumes nothing.
 use mathlib.Core.Path.{_≡_, refl, sym, ap, _∙_, subst}
 use mathlib.Core.Bool.{true, false}
 use mathlib.Core.List.{List, [], _∷_, _++_}
@@ -7,10 +6,10 @@ use Prim.Native.Nat.{ℕ, _+_, _*_, _≤_}
 use native.Mathlib.Omega.{arith}
 use lib.ListN.{length}
 use borrow.Author.Tests.{eqb-true, ltb-false, not-false}
-use Rattle.filing.specs.Outcomes.{refusal, ifDone, Test, firstRefusal, recordTest}
-use Rattle.filing.specs.declared.Outcome.{Outcome}
-use Rattle.filing.specs.declared.Outcome.the-variants as outcome
-use Rattle.filing.proofs.RefusalLaws.{done, done-is, NoneApplies, none-applies, asked-on}
+use Rattle.basics.specs.Outcomes.{refusal, ifDone, Test, firstRefusal, recordTest}
+use Rattle.basics.specs.declared.Outcome.{Outcome}
+use Rattle.basics.specs.declared.Outcome.the-variants as outcome
+use Rattle.basics.proofs.RefusalLaws.{done, done-is, NoneApplies, none-applies, asked-on}
 use Rattle.files.specs.Files.{stations, withRecord}
 use Rattle.files.specs.Calls.{numberTest}
 use Rattle.files.proofs.LengthLaws.{whole-records}

@@ -1,5 +1,5 @@
 -- Demand 3 over the calls themselves: after any run of replacements the sheet is the one judged afresh, and a replacement writes
--- only the new record, its own row, later rows that bear its old or new reference, and the trailer. Assumes nothing.
+-- only the new record, its own row, later rows that bear its old or new reference, and the trailer.
 use mathlib.Core.Path.{_≡_, refl, sym, ap, _∙_}
 use mathlib.Core.Bool.{Bool, true, false}
 use mathlib.Core.List.{List, [], _∷_, _++_}
@@ -7,10 +7,10 @@ use Prim.Native.Nat.{ℕ, suc, _+_, _-_, _*_, _≤_, _<_}
 use native.Mathlib.Omega.{arith}
 use lib.ListN.{length, take}
 use lib.Seq.{length-take-le}
-use Rattle.filing.specs.Outcomes.{ifDone}
+use Rattle.basics.specs.Outcomes.{ifDone}
 use Rattle.header.specs.Codes.{filedHeaderCode}
 use Rattle.files.specs.Files.{stations, recordAt, withRecord}
-use Rattle.filing.proofs.RefusalLaws.{done, if-done}
+use Rattle.basics.proofs.RefusalLaws.{done, if-done}
 use Rattle.files.proofs.ReplacedLaws.{replaced-record, other-record}
 use Rattle.stations.specs.Counting.{first, count, rows}
 use Rattle.stations.specs.Stations.{referenceAt}
@@ -19,7 +19,7 @@ use Rattle.sheet.specs.Forms.{rowAt, closed}
 use Rattle.sheet.specs.Replacing.{mendedRow, mendedSheet, writes, rowsWritten}
 use Rattle.sheet.specs.Calls.{replaceOutcome, replacedFile, replacedSheet, replacedRows, afterAll}
 use Rattle.stations.proofs.CountLaws.{those, count-those}
-use Rattle.sheet.proofs.RowLaws.{Wide, length-rows, row-back}
+use Rattle.sheet.proofs.RowLaws.{RowsWide, length-rows, row-back}
 use Rattle.sheet.proofs.FormLaws.{head-back, rows-back, lowest-whole, found-whole}
 use Rattle.sheet.proofs.RowsMended.{mended-wide, header-none}
 use Rattle.sheet.proofs.CallLaws.{allowed, still-judged}
@@ -74,7 +74,7 @@ module _ (file sheet : List ℕ) (k : ℕ) (r : List ℕ) (accepted : done (repl
   abbrev mendedTo : ℕ → List ℕ
   mendedTo = mendedRow (withRecord file (suc k) r) (referenceAt file (suc k)) (suc k) sheet
 
-  wide : Wide rowWidth mendedTo (stations file)
+  wide : RowsWide rowWidth mendedTo (stations file)
   wide = mended-wide (withRecord file (suc k) r) (referenceAt file (suc k)) (suc k) sheet (stations file) room
 
   -- and is so closed

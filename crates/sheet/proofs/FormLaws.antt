@@ -1,5 +1,4 @@
 -- Sheets of any form: lengths of numbers, rows and trailers, and what is read back of a sheet that was written.
--- Assumes nothing.
 use mathlib.Core.Path.{_≡_, refl, sym, ap, _∙_}
 use mathlib.Core.Bool.{Bool, true, _&&_}
 use mathlib.Core.List.{List, [], _∷_, _++_, append-assoc}

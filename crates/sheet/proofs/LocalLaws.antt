@@ -1,5 +1,5 @@
 -- What makes mending right, over any row and any key. A value of row j is local by a key of records if it hangs on record j, on the
--- records before it that share j's key, and on nothing else. Assumes nothing.
+-- records before it that share j's key, and on nothing else.
 use mathlib.Core.Path.{_≡_, refl, sym, ap, _∙_}
 use mathlib.Core.Logic.{⊎-elim, _⊎_, inl, inr}
 use mathlib.Core.Bool.{Bool, true, false, cond, _&&_, _||_}
@@ -16,7 +16,7 @@ use Rattle.files.proofs.ReplacedLaws.{replaced-record, other-record}
 use Rattle.files.proofs.LengthLaws.{not-both, or-false}
 use Rattle.stations.specs.Counting.{first, rows}
 use Rattle.stations.proofs.CountLaws.{first-cong}
-use Rattle.sheet.proofs.RowLaws.{Wide, rows-cong, mended-rows}
+use Rattle.sheet.proofs.RowLaws.{RowsWide, rows-cong, mended-rows}
 use Rattle.sheet.proofs.TwinLaws.{same-refl, same-true, same-sym}
 
 -- records i and j bear different keys, in both files
@@ -110,7 +110,7 @@ module _ (key : List ℕ → List ℕ) (file : List ℕ) (k : ℕ) (r : List ℕ
   untouched value is-local j l t = is-local file file′ j (kept-record j (not-k j t) l) (λ i p h. told-apart j l t i h)
 
   -- so to write the touched rows of the old sheet is to write the new one.
-  pub mended-by : (w : ℕ) (row : List ℕ → ℕ → List ℕ) → Local key row → Wide w (row file) n → (rest : List ℕ)
+  pub mended-by : (w : ℕ) (row : List ℕ → ℕ → List ℕ) → Local key row → RowsWide w (row file) n → (rest : List ℕ)
       → rows (λ j. cond (touched j) (row file′ j) (take w (drop (w * (j - 1)) (rows (row file) n ++ rest)))) n ≡ rows (row file′) n
   mended-by w row is-local wide rest = mended-rows w (row file) (row file′) touched n rest wide (λ i h t. untouched row is-local (suc i) h t)
 

@@ -1,5 +1,4 @@
 -- Mending over any form, any row and any key: the sheet of a file, mended, is the sheet of the new file.
--- Assumes nothing.
 use mathlib.Core.Path.{_≡_, refl, sym, ap, _∙_}
 use mathlib.Core.Bool.{cond}
 use mathlib.Core.List.{List}
@@ -8,7 +7,7 @@ use lib.ListN.{length, take}
 use Rattle.files.specs.Files.{recordAt, withRecord}
 use Rattle.stations.specs.Counting.{rows}
 use Rattle.sheet.specs.Forms.{Form, rowAt, closed}
-use Rattle.sheet.proofs.RowLaws.{Wide, length-rows}
+use Rattle.sheet.proofs.RowLaws.{RowsWide, length-rows}
 use Rattle.sheet.proofs.FormLaws.{rows-back}
 use Rattle.sheet.proofs.LocalLaws.{Local, touchedBy, mended-by, header-rows}
 
@@ -16,7 +15,7 @@ use Rattle.sheet.proofs.LocalLaws.{Local, touchedBy, mended-by, header-
 abbrev pub mendedBy : Form → (List ℕ → List ℕ) → (List ℕ → ℕ → List ℕ) → List ℕ → List ℕ → ℕ → List ℕ → ℕ → List ℕ
 mendedBy f key row file old k sheet j = cond (touchedBy key file old k j) (row file j) (rowAt f sheet j)
 
-module _ (f : Form) (key : List ℕ → List ℕ) (row : List ℕ → ℕ → List ℕ) (is-local : Local key row) (wide : (file : List ℕ) (n : ℕ) → Wide (f .width) (row file) n)
+module _ (f : Form) (key : List ℕ → List ℕ) (row : List ℕ → ℕ → List ℕ) (is-local : Local key row) (wide : (file : List ℕ) (n : ℕ) → RowsWide (f .width) (row file) n)
     (file : List ℕ) (k : ℕ) (r : List ℕ) (n : ℕ) (fits : length file ≡ 219 * n + 219) (low : k ≤ n) (size : length r ≡ 219) (before : ℕ) where
   -- what the sheet was, whatever header code it had
   abbrev was : List ℕ

@@ -1,12 +1,11 @@
 -- Demand 3: a sheet judged from a file, and mended when a record is replaced, is the sheet judged afresh.
--- Assumes nothing.
 use mathlib.Core.Path.{_≡_, refl}
 use mathlib.Core.List.{List, [], _∷_}
 use Prim.Native.Nat.{ℕ, zero, suc, _+_, _*_, _≤_}
 use native.Mathlib.Omega.{arith}
 use lib.ListN.{length, take}
 use Rattle.columns.specs.Texts.{same}
-use Rattle.filing.specs.Fields.{at}
+use Rattle.basics.specs.Fields.{at}
 use Rattle.station.specs.Places.{fieldsOf}
 use Rattle.station.specs.Codes.{stationCode}
 use Rattle.header.specs.Codes.{filedHeaderCode}

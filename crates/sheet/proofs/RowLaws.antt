@@ -1,5 +1,4 @@
 -- Rows of a fixed width, whatever they hold: written one after the other, kept, and read back.
--- Assumes nothing.
 use mathlib.Core.Path.{_≡_, refl, sym, ap, _∙_}
 use mathlib.Core.Logic.{⊎-elim}
 use mathlib.Core.Bool.{Bool, true, false, cond}
@@ -18,23 +17,23 @@ rows-cong f g zero h = refl
 rows-cong f g (suc n) h = rw (rows-cong f g n (λ i l. h i (omega arith)), h n (le-refl (suc n)))
 
 -- the first n rows have w bytes each
-abbrev pub Wide : ℕ → (ℕ → List ℕ) → ℕ → Type 0
-Wide w row n = (i : ℕ) → i < n → length (row (suc i)) ≡ w
+abbrev pub RowsWide : ℕ → (ℕ → List ℕ) → ℕ → Type 0
+RowsWide w row n = (i : ℕ) → i < n → length (row (suc i)) ≡ w
 
 module _ (w : ℕ) (row : ℕ → List ℕ) where
-  pub length-rows : (n : ℕ) → Wide w row n → length (rows row n) ≡ w * n
+  pub length-rows : (n : ℕ) → RowsWide w row n → length (rows row n) ≡ w * n
   length-rows zero wide = sym (mul-zero w)
   length-rows (suc n) wide = rw (length-append, length-rows n (λ i l. wide i (omega arith)), wide n (le-refl (suc n)), mul-suc w n)
 
   -- the rows that stand before what follows them
-  pub take-rows : (n : ℕ) → Wide w row n → (rest : List ℕ) → take (w * n) (rows row n ++ rest) ≡ rows row n
+  pub take-rows : (n : ℕ) → RowsWide w row n → (rest : List ℕ) → take (w * n) (rows row n ++ rest) ≡ rows row n
   take-rows n wide rest = take-at (rows row n) rest (w * n) (length-rows n wide)
 
-  drop-rows : (n : ℕ) → Wide w row n → (rest : List ℕ) → drop (w * n) (rows row n ++ rest) ≡ rest
+  drop-rows : (n : ℕ) → RowsWide w row n → (rest : List ℕ) → drop (w * n) (rows row n ++ rest) ≡ rest
   drop-rows n wide rest = drop-at (rows row n) rest (w * n) (length-rows n wide)
 
   -- row i + 1, read back
-  pub row-back : (n : ℕ) → Wide w row n → (i : ℕ) (rest : List ℕ) → i < n → take w (drop (w * i) (rows row n ++ rest)) ≡ row (suc i)
+  pub row-back : (n : ℕ) → RowsWide w row n → (i : ℕ) (rest : List ℕ) → i < n → take w (drop (w * i) (rows row n ++ rest)) ≡ row (suc i)
   row-back zero wide i rest h = absurd (omega arith)
   row-back (suc n) wide i rest h =
       rw (append-assoc (rows row n) (row (suc n)) rest)
@@ -53,7 +52,7 @@ module _ (w : ℕ) (row : ℕ → List ℕ) where
         ∙ rw (← e, drop-drop w (w * i) s, add-one i, next) (sym (append-assoc (rows row i) (row (suc i)) (drop (w * i + w) s)))
 
     -- and where it is written over what stood there
-    pub row-put : Wide w row i → (now : List ℕ) → now ≡ rows row i ++ drop (w * i) s → take (w * i) now ++ (row (i + 1) ++ drop (w * i + w) now) ≡ rows row (i + 1) ++ drop (w * (i + 1)) s
+    pub row-put : RowsWide w row i → (now : List ℕ) → now ≡ rows row i ++ drop (w * i) s → take (w * i) now ++ (row (i + 1) ++ drop (w * i + w) now) ≡ rows row (i + 1) ++ drop (w * (i + 1)) s
     row-put wide now e =
         let next : w * suc i ≡ w * i + w = mul-suc w i in
         let front : take (w * i) now ≡ rows row i = rw e (take-rows i wide (drop (w * i) s)) in
@@ -61,7 +60,7 @@ module _ (w : ℕ) (row : ℕ → List ℕ) where
         rw (front, back, add-one i, next) (sym (append-assoc (rows row i) (row (suc i)) (drop (w * i + w) s)))
 
 -- A sheet whose rows were `before`, mended where the test says so, is the sheet of `after`, if no other row differs.
-pub mended-rows : (w : ℕ) (before after : ℕ → List ℕ) (touched : ℕ → Bool) (n : ℕ) (rest : List ℕ) → Wide w before n
+pub mended-rows : (w : ℕ) (before after : ℕ → List ℕ) (touched : ℕ → Bool) (n : ℕ) (rest : List ℕ) → RowsWide w before n
     → ((i : ℕ) → i < n → touched (suc i) ≡ false → before (suc i) ≡ after (suc i))
     → rows (λ j. cond (touched j) (after j) (take w (drop (w * (j - 1)) (rows before n ++ rest)))) n ≡ rows after n
 mended-rows w before after touched n rest wide agree =

@@ -1,5 +1,4 @@
 -- One more row mended, written where it is touched and kept where it is not; and what a replaced station leaves.
--- Assumes nothing.
 use mathlib.Core.Path.{_≡_, refl, sym, ap, _∙_}
 use mathlib.Core.Bool.{Bool, true, false, cond}
 use mathlib.Core.List.{List, _++_}
@@ -14,12 +13,12 @@ use Rattle.stations.proofs.CountLaws.{count-none}
 use Rattle.sheet.specs.Sheets.{rowWidth, rowOf, headIn, withTrailer}
 use Rattle.sheet.specs.Forms.{rowAt}
 use Rattle.sheet.specs.Replacing.{touched, mendedRow, mendedSheet, writes, rowsWritten}
-use Rattle.sheet.proofs.RowLaws.{Wide, take-rows, row-put, row-kept}
+use Rattle.sheet.proofs.RowLaws.{RowsWide, take-rows, row-put, row-kept}
 use Rattle.sheet.proofs.SheetLaws.{rows-wide}
 
 module _ (file old : List ℕ) (k : ℕ) (sheet : List ℕ) where
   -- The rows of a mended sheet have their width.
-  pub mended-wide : (n : ℕ) → rowWidth * n ≤ length sheet → Wide rowWidth (mendedRow file old k sheet) n
+  pub mended-wide : (n : ℕ) → rowWidth * n ≤ length sheet → RowsWide rowWidth (mendedRow file old k sheet) n
   unfolding mendedRow rowAt
   mended-wide n room i h = by-case (touched file old k (suc i))
     where

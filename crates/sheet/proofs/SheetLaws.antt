@@ -1,5 +1,4 @@
 -- The sheet's own rows and trailer, by the laws of any form.
--- Assumes nothing.
 use mathlib.Core.Path.{_≡_, refl, sym, ap, _∙_}
 use mathlib.Core.Bool.{Bool, not, true}
 use mathlib.Core.List.{List, [], _∷_, _++_, append-nil}
@@ -16,11 +15,11 @@ use Rattle.stations.specs.Counting.{count, rows}
 use Rattle.sheet.specs.Forms.{rowAt, badAt}
 use Rattle.stations.specs.Stations.{codeAt}
 use Rattle.sheet.specs.Sheets.{form, rowWidth, sheetLength, twinAt, rowOf, bad, judgedSheet, headIn, foundIn, trailerFits}
-use Rattle.sheet.proofs.RowLaws.{Wide, length-rows}
+use Rattle.sheet.proofs.RowLaws.{RowsWide, length-rows}
 use Rattle.sheet.proofs.FormLaws.{row-length, rows-back, head-back, fits-back, found-whole, closed-length}
 
 -- The rows of a file have their width.
-pub rows-wide : (file : List ℕ) (n : ℕ) → Wide rowWidth (rowOf file) n
+pub rows-wide : (file : List ℕ) (n : ℕ) → RowsWide rowWidth (rowOf file) n
 unfolding rowOf
 rows-wide file n i h = refl
 

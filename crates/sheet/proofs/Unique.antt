@@ -1,9 +1,8 @@
 -- The promises of the calls on sheets leave one answer and one content of the lent bytes.
--- Assumes nothing.
 use mathlib.Core.Path.{_≡_, sym, _∙_}
 use mathlib.Core.List.{List}
 use Prim.Native.Nat.{ℕ}
-use Rattle.filing.specs.declared.Outcome.{Outcome}
+use Rattle.basics.specs.declared.Outcome.{Outcome}
 use Rattle.sheet.specs.Promises.{SheetJudged, RecordReplaced}
 use Rattle.sheet.specs.declared.replacing.Replaced.{Replaced}
 

@@ -3,9 +3,9 @@ use Prim.Native.Nat.{ℕ}
 use mathlib.Core.Bool.{not}
 use mathlib.Core.List.{List, [], _∷_, _++_}
 use Rattle.columns.specs.Texts.{sized}
-use Rattle.filing.specs.Outcomes.{ifDone, Test, when, firstRefusal, recordTest}
-use Rattle.filing.specs.declared.Outcome.{Outcome}
-use Rattle.filing.specs.declared.Outcome.the-variants as outcome
+use Rattle.basics.specs.Outcomes.{ifDone, Test, when, firstRefusal, recordTest}
+use Rattle.basics.specs.declared.Outcome.{Outcome}
+use Rattle.basics.specs.declared.Outcome.the-variants as outcome
 use Rattle.files.specs.Files.{stations, withRecord}
 use Rattle.files.specs.Calls.{fileTests, numberTest}
 use Rattle.sheet.specs.Sheets.{sheetLength, sheetOf, trailerFits}

@@ -4,8 +4,8 @@ use mathlib.Core.Path.{_≡_}
 use mathlib.Core.Bool.{Bool}
 use mathlib.Core.List.{List}
 use lib.ListN.{length}
-use Rattle.filing.specs.declared.Outcome.{Outcome}
-use Rattle.filing.specs.Fields.{recordLength}
+use Rattle.basics.specs.declared.Outcome.{Outcome}
+use Rattle.basics.specs.Fields.{recordLength}
 use Rattle.files.specs.Files.{mostStations}
 use Rattle.sheet.specs.Forms.{codeIn}
 use Rattle.sheet.specs.Sheets.{sheetLength, rowsIn, rowIn, twinIn, bad, headIn, lowestIn, foundIn, sheetOf}

@@ -4,11 +4,11 @@ use crate::readers::head_code;
 use crate::rows::put_row;
 use crate::trailers::fits_trailer;
 use crate::trailers::put_trailer;
+use basics::Outcome;
+use basics::outcomes::is_done;
 use columns::texts::equal;
 use files::lengths::RECORD_LENGTH;
 use files::lengths::stations_in;
-use filing::Outcome;
-use filing::outcomes::is_done;
 use header::judging::filed_header_code;
 use stations::reference;
 ghost use mathlib.Core.Path.{_≡_};
@@ -20,7 +20,7 @@ ghost use Rattle.stations.specs.Counting.{rows, count};
 ghost use Rattle.sheet.specs.Replacing.{touched, mendedRow, mendedSheet, rowsWritten};
 ghost use Rattle.sheet.specs.Calls.{replaceOutcome};
 ghost use Rattle.sheet.specs.Promises.{RecordReplaced, StillJudged, Sized};
-ghost use Rattle.filing.specs.Fields.{recordLength};
+ghost use Rattle.basics.specs.Fields.{recordLength};
 ghost use Rattle.sheet.specs.Sheets.{rowWidth};
 
 // How a replacement ended, and how many rows it wrote.

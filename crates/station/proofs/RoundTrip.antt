@@ -1,5 +1,4 @@
 -- A station and its record: what is written is read back, and what is read can be written.
--- Assumes nothing.
 use mathlib.Core.Path.{_≡_, refl, sym, ap, _∙_}
 use mathlib.Core.List.{List, _++_}
 use mathlib.Core.Bool.{true}
@@ -9,9 +8,9 @@ use Rattle.fields.specs.Table.{stationTable}
 use Rattle.fields.proofs.RowLaws.{Beside}
 use Rattle.fields.proofs.TripLaws.{spelt-kept, spelt-back}
 use Rattle.fields.proofs.TripLaws as trip
-use Rattle.filing.specs.Fields.{recordLength}
-use Rattle.filing.specs.Rules.{All}
-use Rattle.filing.proofs.RuleLaws.{all-hold, none-broken, rule, all-append, all-front, all-back}
+use Rattle.basics.specs.Fields.{recordLength}
+use Rattle.basics.specs.Rules.{All}
+use Rattle.basics.proofs.RuleLaws.{all-hold, none-broken, rule, all-append, all-front, all-back}
 use Rattle.station.specs.Members.{valuesOf, stationFrom}
 use Rattle.station.specs.Places.{station-tiles, fieldsOf}
 use Rattle.station.specs.Rules.{fieldRules, typedRules}

@@ -1,8 +1,8 @@
 -- Document 01, "Refusal numbers": how the calls on stations end, and what they hand back and leave.
 use Prim.Native.Nat.{ℕ}
 use mathlib.Core.List.{List, [], _∷_}
-use Rattle.filing.specs.Outcomes.{ifDone, firstRefusal, recordTest, bufferTest, ruleTest, judged}
-use Rattle.filing.specs.declared.Outcome.{Outcome}
+use Rattle.basics.specs.Outcomes.{ifDone, firstRefusal, recordTest, bufferTest, ruleTest, judged}
+use Rattle.basics.specs.declared.Outcome.{Outcome}
 use Rattle.station.specs.Values.{emptyStation}
 use Rattle.station.specs.Spelling.{spellStation}
 use Rattle.station.specs.Codes.{valueOf, stationCode, typedCode}

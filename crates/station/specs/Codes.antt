@@ -1,7 +1,7 @@
 -- Document 01, "Station rules, by code": the code of a record, and of a typed station.
 use Prim.Native.Nat.{ℕ}
 use mathlib.Core.List.{List, _++_}
-use Rattle.filing.specs.Rules.{firstBroken}
+use Rattle.basics.specs.Rules.{firstBroken}
 use Rattle.station.specs.Places.{fieldsOf}
 use Rattle.station.specs.Rules.{fieldRules, typedRules}
 use Rattle.station.specs.Between.{betweenRules}

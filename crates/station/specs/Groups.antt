@@ -5,12 +5,12 @@ use mathlib.Core.List.{List}
 use lib.ListN.{take, drop}
 use Rattle.fields.specs.Rows.{rulesFrom, fitsOf, speltOf}
 use Rattle.station.specs.Between.{betweenTable, neverOf}
-use Rattle.station.specs.Members.{rows, channelValues, siteValues, emissionValues, antennaValues, filingValues}
+use Rattle.station.specs.Members.{rows, channelValues, siteValues, emissionValues, antennaValues, coordinationValues}
 use Rattle.station.specs.declared.Channel.{Channel}
 use Rattle.station.specs.declared.Site.{Site}
 use Rattle.station.specs.declared.Emission.{Emission}
 use Rattle.station.specs.declared.Antenna.{Antenna}
-use Rattle.station.specs.declared.Filing.{Filing}
+use Rattle.station.specs.declared.Coordination.{Coordination}
 use Rattle.station.specs.declared.Station.{Station}
 
 -- Channel, rows 1 to 7.
@@ -53,15 +53,15 @@ antennaRules s = fitsOf (rows 19 23) (antennaValues s tt)
 unfoldable pub antennaPieces : Antenna → List (List ℕ)
 antennaPieces s = speltOf (rows 19 23) (antennaValues s tt)
 
--- Filing, rows 24 to 30.
-unfoldable pub filingFields : List (List ℕ) → List Bool
-filingFields f = rulesFrom 24 (rows 24 30) f
+-- Coordination, rows 24 to 30.
+unfoldable pub coordinationFields : List (List ℕ) → List Bool
+coordinationFields f = rulesFrom 24 (rows 24 30) f
 
-unfoldable pub filingRules : Filing → List Bool
-filingRules s = fitsOf (rows 24 30) (filingValues s tt)
+unfoldable pub coordinationRules : Coordination → List Bool
+coordinationRules s = fitsOf (rows 24 30) (coordinationValues s tt)
 
-unfoldable pub filingPieces : Filing → List (List ℕ)
-filingPieces s = speltOf (rows 24 30) (filingValues s tt)
+unfoldable pub coordinationPieces : Coordination → List (List ℕ)
+coordinationPieces s = speltOf (rows 24 30) (coordinationValues s tt)
 
 -- The rules between fields: those of frequencies, radius and azimuth, 31 to 34,
 unfoldable pub firstBetween : Station → List Bool

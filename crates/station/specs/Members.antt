@@ -8,7 +8,7 @@ use Rattle.station.specs.declared.Channel.{Channel}
 use Rattle.station.specs.declared.Site.{Site}
 use Rattle.station.specs.declared.Emission.{Emission}
 use Rattle.station.specs.declared.Antenna.{Antenna}
-use Rattle.station.specs.declared.Filing.{Filing}
+use Rattle.station.specs.declared.Coordination.{Coordination}
 use Rattle.station.specs.declared.Station.{Station}
 
 -- Rows a to b.
@@ -33,12 +33,12 @@ emissionValues s rest = s .designation & s .power & s .basis & s .azimuth & s .e
 abbrev pub antennaValues : {R : Type 0} → Antenna → R → Front (rows 19 23) R
 antennaValues s rest = s .polarisation & s .gain & s .ground & s .horizontal & s .vertical & rest
 
-abbrev pub filingValues : {R : Type 0} → Filing → R → Front (rows 24 30) R
-filingValues s rest = s .receive & s .receive & s .remarks & s .status & s .requested & s .coordinated & s .reference & rest
+abbrev pub coordinationValues : {R : Type 0} → Coordination → R → Front (rows 24 30) R
+coordinationValues s rest = s .receive & s .receive & s .remarks & s .status & s .requested & s .coordinated & s .reference & rest
 
 -- All thirty,
 abbrev pub valuesOf : Station → Values stationTable
-valuesOf s = channelValues (s .channel) (siteValues (s .site) (emissionValues (s .emission) (antennaValues (s .antenna) (filingValues (s .filing) tt))))
+valuesOf s = channelValues (s .channel) (siteValues (s .site) (emissionValues (s .emission) (antennaValues (s .antenna) (coordinationValues (s .coordination) tt))))
 
 -- that of field number k,
 abbrev pub valueAt : Values stationTable → (k : ℕ) → (meantAt k) .Value
@@ -53,5 +53,5 @@ stationFrom v =
       site = record { started = field 8; name = field 9; country = field 10; position = field 11; radius = field 12; height = field 13 };
       emission = record { designation = field 14; power = field 15; basis = field 16; azimuth = field 17; elevation = field 18 };
       antenna = record { polarisation = field 19; gain = field 20; ground = field 21; horizontal = field 22; vertical = field 23 };
-      filing = record { receive = field 24; remarks = field 26; status = field 27; requested = field 28; coordinated = field 29; reference = field 30 };
+      coordination = record { receive = field 24; remarks = field 26; status = field 27; requested = field 28; coordinated = field 29; reference = field 30 };
     }

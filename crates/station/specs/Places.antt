@@ -5,7 +5,7 @@ use mathlib.Core.Bool.{true}
 use mathlib.Core.List.{List}
 use Rattle.fields.specs.Rows.{placesOf}
 use Rattle.fields.specs.Table.{stationTable, table-tiles}
-use Rattle.filing.specs.Fields.{cut, tilesFrom}
+use Rattle.basics.specs.Fields.{cut, tilesFrom}
 
 -- First column and length of each field, by code.
 abbrev pub stationPlaces : List (ℕ × ℕ)

@@ -4,8 +4,8 @@ use mathlib.Core.Path.{_≡_}
 use Rattle.fields.specs.declared.tenths.Tenths.{Tenths}
 use Rattle.fields.specs.declared.distances.Metres.{Metres}
 use Rattle.fields.specs.declared.distances.Height.{Height}
-use Rattle.filing.specs.Fields.{placeOf}
-use Rattle.filing.specs.declared.Place.{Place}
+use Rattle.basics.specs.Fields.{placeOf}
+use Rattle.basics.specs.declared.Place.{Place}
 use Rattle.station.specs.Places.{stationPlaces}
 use Rattle.station.specs.Codes.{typedCode}
 use Rattle.station.specs.Calls.{setOutcome, setStation}

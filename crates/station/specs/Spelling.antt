@@ -3,7 +3,7 @@ use Prim.Native.Nat.{ℕ}
 use mathlib.Core.List.{List}
 use Rattle.fields.specs.Rows.{speltOf}
 use Rattle.fields.specs.Table.{stationTable}
-use Rattle.filing.specs.Fields.{joined}
+use Rattle.basics.specs.Fields.{joined}
 use Rattle.station.specs.Members.{valuesOf}
 use Rattle.station.specs.declared.Station.{Station}
 

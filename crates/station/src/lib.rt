@@ -51,7 +51,7 @@ pub struct Antenna {
 }
 
 // What is received, and how it was filed: 1Y with its unit, 13Z, 13Y, 2W, 2Z and 13X.
-pub struct Filing {
+pub struct Coordination {
     pub receive: Frequency,
     pub remarks: [u8; 50],
     pub status: u8,
@@ -66,5 +66,5 @@ pub struct Station {
     pub site: Site,
     pub emission: Emission,
     pub antenna: Antenna,
-    pub filing: Filing,
+    pub coordination: Coordination,
 }

@@ -1,6 +1,6 @@
 // The places of a station's thirty fields.
-use filing::Place;
-use filing::places::place_in;
+use basics::Place;
+use basics::places::place_in;
 ghost use Rattle.station.specs.Promises.{StationPlaced};
 
 // The first column of each field, counted from 1, and its length.

@@ -4,12 +4,12 @@ use crate::Emission;
 use crate::Site;
 use crate::Station;
 use crate::typed::typed_code;
+use basics::Outcome;
+use basics::outcomes::is_done;
+use basics::outcomes::judged;
 use fields::distances::Height;
 use fields::distances::Metres;
 use fields::tenths::Tenths;
-use filing::Outcome;
-use filing::outcomes::is_done;
-use filing::outcomes::judged;
 ghost use Rattle.station.specs.Promises.{StationSet, PowerSet, AzimuthSet, ElevationSet, HeightSet, GroundSet};
 
 // How setting ended, and the station: the changed one, or on a refusal the one that was given.

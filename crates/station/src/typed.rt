@@ -1,8 +1,8 @@
 // The code of a typed station: the first rule that its values break, 1 to 30 and then 31 to 39.
 use crate::Antenna;
 use crate::Channel;
+use crate::Coordination;
 use crate::Emission;
-use crate::Filing;
 use crate::Site;
 use crate::Station;
 use crate::between::has_frequency;
@@ -11,6 +11,7 @@ use crate::between::has_tenths;
 use crate::between::is_repeater_name;
 use crate::between::is_round;
 use crate::between::never_both;
+use basics::rules::first_broken;
 use columns::dates::fits_day;
 use columns::decimals::Format;
 use columns::texts::equal;
@@ -34,12 +35,11 @@ use fields::frequencies::fits_frequency;
 use fields::positions::fits_position;
 use fields::remarks::is_remarks;
 use fields::tenths::fits_tenths;
-use filing::rules::first_broken;
 ghost use mathlib.Core.Path.{_≡_};
 ghost use Rattle.columns.specs.Sets.{is};
 ghost use Rattle.columns.specs.Texts.{bytes, head, trimmed, same, endsIn};
-ghost use Rattle.filing.specs.Rules.{firstBroken};
-ghost use Rattle.station.specs.Groups.{channelRules, siteRules, emissionRules, antennaRules, filingRules, firstBetween, lastBetween};
+ghost use Rattle.basics.specs.Rules.{firstBroken};
+ghost use Rattle.station.specs.Groups.{channelRules, siteRules, emissionRules, antennaRules, coordinationRules, firstBetween, lastBetween};
 ghost use Rattle.station.specs.Rules.{typedRules};
 ghost use Rattle.station.specs.Between.{roundAntenna};
 ghost use Rattle.station.specs.Promises.{StationJudged};
@@ -120,8 +120,8 @@ fn typed_antenna_code(s: Antenna) -> u8
 }
 
 // Rules 24 to 30; a typed unit always has its letter.
-fn typed_filing_code(s: Filing) -> u8
-    ensures { λ r. ⌜ r ≡ firstBroken 24 (filingRules s) ⌝ }
+fn typed_coordination_code(s: Coordination) -> u8
+    ensures { λ r. ⌜ r ≡ firstBroken 24 (coordinationRules s) ⌝ }
 {
     let receive = s.receive;
     let remarks = s.remarks;
@@ -160,7 +160,7 @@ fn typed_field_code(s: Station) -> u8
     if antenna != 0 {
         return antenna;
     }
-    typed_filing_code(s.filing)
+    typed_coordination_code(s.coordination)
 }
 
 // 6A begins with M.
@@ -181,8 +181,8 @@ fn typed_first_between(s: Station) -> u8
     let emission = s.emission;
     let power = emission.power;
     let azimuth = emission.azimuth;
-    let filing = s.filing;
-    let receive = filing.receive;
+    let coordination = s.coordination;
+    let receive = coordination.receive;
     let silent = !has_frequency(transmit);
     let mobile = is_mobile(channel);
     let rules = [
@@ -238,8 +238,8 @@ fn typed_last_between(s: Station) -> u8
     let elevation = emission.elevation;
     let antenna = s.antenna;
     let gain = antenna.gain;
-    let filing = s.filing;
-    let receive = filing.receive;
+    let coordination = s.coordination;
+    let receive = coordination.receive;
     let rules = [
         never_both(!has_tenths(azimuth), !is_round_across(antenna)),
         never_both(!has_tenths(elevation), !is_round_upright(antenna)),

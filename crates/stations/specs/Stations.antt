@@ -8,7 +8,7 @@ use Rattle.fields.specs.Positions.{locatedOf}
 use Rattle.fields.specs.declared.frequencies.Frequency.{Frequency}
 use Rattle.fields.specs.declared.distances.Metres.{Metres}
 use Rattle.fields.specs.declared.positions.Located.{Located}
-use Rattle.filing.specs.Fields.{at}
+use Rattle.basics.specs.Fields.{at}
 use Rattle.station.specs.Places.{fieldsOf}
 use Rattle.station.specs.Codes.{stationCode}
 use Rattle.files.specs.Files.{recordAt}

@@ -10,7 +10,7 @@ use reading::judging::station_code;
 ghost use mathlib.Core.Path.{_≡_};
 ghost use Prim.Native.Nat.{_+_, _*_, _≤_};
 ghost use lib.ListN.{length};
-ghost use Rattle.filing.specs.Fields.{recordLength};
+ghost use Rattle.basics.specs.Fields.{recordLength};
 ghost use Rattle.stations.specs.Stations.{codeAt, referenceAt, operatorAt, siteAt, positionAt, groundAt, transmitAt};
 
 // Station k's code.

@@ -1,10 +1,9 @@
 -- The values of a station that breaks no rule keep the rules of their group.
--- Assumes nothing.
 use mathlib.Core.Path.{_≡_}
 use mathlib.Core.List.{_++_}
-use Rattle.filing.specs.Rules.{All}
-use Rattle.filing.proofs.RuleLaws.{all-hold, all-front, all-back}
-use Rattle.station.specs.Groups.{channelRules, siteRules, emissionRules, antennaRules, filingRules}
+use Rattle.basics.specs.Rules.{All}
+use Rattle.basics.proofs.RuleLaws.{all-hold, all-front, all-back}
+use Rattle.station.specs.Groups.{channelRules, siteRules, emissionRules, antennaRules, coordinationRules}
 use Rattle.station.specs.Rules.{typedRules}
 use Rattle.station.specs.Between.{betweenRules}
 use Rattle.station.specs.Codes.{typedCode}
@@ -16,17 +15,17 @@ module _ (s : Station) (e : typedCode s ≡ 0) where
   unfolding typedCode
   fields-fit = all-front (typedRules s) (betweenRules s) (all-hold 0 (typedRules s ++ betweenRules s) e)
 
-  in-groups : All (channelRules (s .channel) ++ (siteRules (s .site) ++ (emissionRules (s .emission) ++ (antennaRules (s .antenna) ++ filingRules (s .filing)))))
-  unfolding typedRules channelRules siteRules emissionRules antennaRules filingRules
+  in-groups : All (channelRules (s .channel) ++ (siteRules (s .site) ++ (emissionRules (s .emission) ++ (antennaRules (s .antenna) ++ coordinationRules (s .coordination)))))
+  unfolding typedRules channelRules siteRules emissionRules antennaRules coordinationRules
   in-groups = fields-fit
 
-  from-site : All (siteRules (s .site) ++ (emissionRules (s .emission) ++ (antennaRules (s .antenna) ++ filingRules (s .filing))))
+  from-site : All (siteRules (s .site) ++ (emissionRules (s .emission) ++ (antennaRules (s .antenna) ++ coordinationRules (s .coordination))))
   from-site = all-back (channelRules (s .channel)) _ in-groups
 
-  from-emission : All (emissionRules (s .emission) ++ (antennaRules (s .antenna) ++ filingRules (s .filing)))
+  from-emission : All (emissionRules (s .emission) ++ (antennaRules (s .antenna) ++ coordinationRules (s .coordination)))
   from-emission = all-back (siteRules (s .site)) _ from-site
 
-  from-antenna : All (antennaRules (s .antenna) ++ filingRules (s .filing))
+  from-antenna : All (antennaRules (s .antenna) ++ coordinationRules (s .coordination))
   from-antenna = all-back (emissionRules (s .emission)) _ from-emission
 
   pub channel-fits : All (channelRules (s .channel))
@@ -41,5 +40,5 @@ module _ (s : Station) (e : typedCode s ≡ 0) where
   pub antenna-fits : All (antennaRules (s .antenna))
   antenna-fits = all-front (antennaRules (s .antenna)) _ from-antenna
 
-  pub filing-fits : All (filingRules (s .filing))
-  filing-fits = all-back (antennaRules (s .antenna)) _ from-antenna
+  pub coordination-fits : All (coordinationRules (s .coordination))
+  coordination-fits = all-back (antennaRules (s .antenna)) _ from-antenna

@@ -1,5 +1,4 @@
 -- What a writer leaves that writes only what fits: the spelling, where it does.
--- Assumes nothing.
 use mathlib.Core.Path.{_≡_, _∙_}
 use mathlib.Core.Bool.{Bool, true, cond, _&&_}
 use mathlib.Core.List.{List}

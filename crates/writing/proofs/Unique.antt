@@ -1,9 +1,8 @@
 -- The promise of writing a station leaves one answer and one content of the lent bytes.
--- Assumes nothing.
 use mathlib.Core.Path.{_≡_, sym, _∙_}
 use mathlib.Core.List.{List}
 use Prim.Native.Nat.{ℕ}
-use Rattle.filing.specs.declared.Outcome.{Outcome}
+use Rattle.basics.specs.declared.Outcome.{Outcome}
 use Rattle.station.specs.declared.Station.{Station}
 use Rattle.writing.specs.Promises.{StationWritten}
 

@@ -12,14 +12,14 @@ use columns::texts::write_byte;
 use columns::texts::write_text;
 use station::Antenna;
 use station::Channel;
+use station::Coordination;
 use station::Emission;
-use station::Filing;
 use station::Site;
 ghost use mathlib.Core.Path.{_≡_};
 ghost use lib.ListN.{length, drop};
-ghost use Rattle.filing.specs.Fields.{joined};
-ghost use Rattle.filing.specs.Rules.{All};
-ghost use Rattle.station.specs.Groups.{channelRules, siteRules, emissionRules, antennaRules, filingRules, channelPieces, sitePieces, emissionPieces, antennaPieces, filingPieces};
+ghost use Rattle.basics.specs.Fields.{joined};
+ghost use Rattle.basics.specs.Rules.{All};
+ghost use Rattle.station.specs.Groups.{channelRules, siteRules, emissionRules, antennaRules, coordinationRules, channelPieces, sitePieces, emissionPieces, antennaPieces, coordinationPieces};
 
 // 6A, 6B, 6Z and 10Z, columns 14 to 20: what it is used for.
 fn put_use(g: Channel, s: &mut [u8])
@@ -124,9 +124,9 @@ pub(crate) fn put_antenna(g: Antenna, s: &mut [u8])
 }
 
 // 13Y, 2W, 2Z and 13X, columns 188 to 219: how it was coordinated.
-fn put_coordination(g: Filing, s: &mut [u8])
-    requires { ⌜ (length (now s) ≡ 32) × All (filingRules g) ⌝ }
-    ensures { λ _. ⌜ now (s .exit) ≡ joined (drop 3 (filingPieces g)) ⌝ }
+fn put_coordination(g: Coordination, s: &mut [u8])
+    requires { ⌜ (length (now s) ≡ 32) × All (coordinationRules g) ⌝ }
+    ensures { λ _. ⌜ now (s .exit) ≡ joined (drop 3 (coordinationPieces g)) ⌝ }
 {
     write_byte(&mut s[0..1], g.status);
     let requested = g.requested;
@@ -138,9 +138,9 @@ fn put_coordination(g: Filing, s: &mut [u8])
 }
 
 // 1Y with its unit, 13Z and what follows, columns 126 to 219.
-pub(crate) fn put_filing(g: Filing, s: &mut [u8])
-    requires { ⌜ (length (now s) ≡ 94) × All (filingRules g) ⌝ }
-    ensures { λ _. ⌜ now (s .exit) ≡ joined (filingPieces g) ⌝ }
+pub(crate) fn put_coordination(g: Coordination, s: &mut [u8])
+    requires { ⌜ (length (now s) ≡ 94) × All (coordinationRules g) ⌝ }
+    ensures { λ _. ⌜ now (s .exit) ≡ joined (coordinationPieces g) ⌝ }
 {
     let receive = g.receive;
     put_amount(&mut s[0..11], receive);

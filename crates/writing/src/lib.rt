@@ -1,10 +1,10 @@
 // A typed station written into a lent record, each field straight into its own columns.
 use crate::groups::put_antenna;
 use crate::groups::put_channel;
+use crate::groups::put_coordination;
 use crate::groups::put_emission;
-use crate::groups::put_filing;
 use crate::groups::put_site;
-use filing::Outcome;
+use basics::Outcome;
 use station::Station;
 use station::typed::typed_code;
 ghost use mathlib.Core.Path.{_≡_};
@@ -29,8 +29,8 @@ fn put_station(s: Station, buffer: &mut [u8])
     put_emission(emission, &mut buffer[75..101]);
     let antenna = s.antenna;
     put_antenna(antenna, &mut buffer[101..125]);
-    let filing = s.filing;
-    put_filing(filing, &mut buffer[125..219]);
+    let coordination = s.coordination;
+    put_coordination(coordination, &mut buffer[125..219]);
 }
 
 // Writes a station into a lent buffer; it is refused where that has not 219 bytes, or the station breaks a rule, and then

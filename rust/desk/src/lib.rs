@@ -54,7 +54,7 @@ pub fn rules() -> u32 {
 /// let mut sheet = [0; 8];
 /// desk::judge(&header, &mut sheet)?;
 /// assert_eq!(sheet, [0, 8, 2, 1, 0, 0, b'2', b'A']);
-/// assert_eq!(desk::judge(&[], &mut sheet), Err(desk::Refusal::FileLength));
+/// assert_eq!(desk::judge(&[], &mut sheet), Err(desk::Refusal::FileNotRecords));
 /// # Ok::<(), desk::Refusal>(())
 /// ```
 pub fn judge(file: &[u8], sheet: &mut [u8]) -> Result<(), Refusal> {

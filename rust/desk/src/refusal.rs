@@ -8,7 +8,7 @@ pub enum Refusal {
     /// 1: the file is longer than 54,969 bytes.
     FileTooLong,
     /// 2: the file's length is zero or no multiple of 219.
-    FileLength,
+    FileNotRecords,
     /// 3: the lent sheet is not exactly 2n + 8 bytes.
     SheetLength,
     /// 4: the sheet's trailer lacks "2A", width 2 or distance 2n + 8.
@@ -44,7 +44,7 @@ impl Refusal {
         let refusal = match number {
             0 => return None,
             1 => Refusal::FileTooLong,
-            2 => Refusal::FileLength,
+            2 => Refusal::FileNotRecords,
             3 => Refusal::SheetLength,
             4 => Refusal::SheetTrailer,
             5 => Refusal::NoSuchRecord,
@@ -69,7 +69,7 @@ impl Refusal {
     pub fn number(self) -> u8 {
         match self {
             Refusal::FileTooLong => 1,
-            Refusal::FileLength => 2,
+            Refusal::FileNotRecords => 2,
             Refusal::SheetLength => 3,
             Refusal::SheetTrailer => 4,
             Refusal::NoSuchRecord => 5,
@@ -88,7 +88,7 @@ impl fmt::Display for Refusal {
     fn fmt(&self, f: &mut fmt::Formatter<'_>) -> fmt::Result {
         match self {
             Refusal::FileTooLong => write!(f, "the file is longer than 54,969 bytes"),
-            Refusal::FileLength => write!(f, "the file's length is zero or no multiple of 219"),
+            Refusal::FileNotRecords => write!(f, "the file's length is zero or no multiple of 219"),
             Refusal::SheetLength => write!(f, "the sheet is not 2n + 8 bytes"),
             Refusal::SheetTrailer => write!(f, "the sheet's trailer is not that of this file"),
             Refusal::NoSuchRecord => write!(f, "the file has no record with this number"),

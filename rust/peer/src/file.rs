@@ -93,7 +93,7 @@ fn check_length(file: &[u8]) -> Result<(), Refusal> {
     if file.len() > MAX_FILE_LENGTH {
         Err(Refusal::FileTooLong)
     } else if file.is_empty() || !file.len().is_multiple_of(RECORD_LENGTH) {
-        Err(Refusal::FileLength)
+        Err(Refusal::FileNotRecords)
     } else {
         Ok(())
     }

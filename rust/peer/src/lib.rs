@@ -12,7 +12,7 @@
 //! peer::judge(&file, &mut sheet).unwrap();
 //! assert_eq!(sheet, [3, 0, 0, 10, 2, 1, 1, 1, b'2', b'A']);
 //! file[0] = b'1';
-//! assert_eq!(peer::judge(&file[..100], &mut sheet), Err(peer::Refusal::FileLength));
+//! assert_eq!(peer::judge(&file[..100], &mut sheet), Err(peer::Refusal::FileNotRecords));
 //! ```
 
 #![forbid(unsafe_code)]

@@ -8,7 +8,7 @@ pub enum Refusal {
     /// 1: the file is longer than 54,969 bytes.
     FileTooLong,
     /// 2: the file's length is zero or no multiple of 219.
-    FileLength,
+    FileNotRecords,
     /// 3: the lent sheet is not exactly 2n + 8 bytes.
     SheetLength,
     /// 4: the sheet's trailer lacks "2A", width 2 or distance 2n + 8.
@@ -36,7 +36,7 @@ impl Refusal {
     pub fn number(self) -> u8 {
         match self {
             Refusal::FileTooLong => 1,
-            Refusal::FileLength => 2,
+            Refusal::FileNotRecords => 2,
             Refusal::SheetLength => 3,
             Refusal::SheetTrailer => 4,
             Refusal::NoSuchRecord => 5,

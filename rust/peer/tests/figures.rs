@@ -514,7 +514,7 @@ fn showing() {
     assert_eq!(show(&file, 0, 15), Err(Refusal::NoSuchField));
     assert_eq!(show(&file, 1, 0), Err(Refusal::NoSuchField));
     assert_eq!(show(&file, 1, 31), Err(Refusal::NoSuchField));
-    assert_eq!(show(&file[1..], 1, 1), Err(Refusal::FileLength));
+    assert_eq!(show(&file[1..], 1, 1), Err(Refusal::FileNotRecords));
 }
 
 /// Station S as a semicolon line; 13Z stays 50 spaces.

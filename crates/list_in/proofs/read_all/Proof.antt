@@ -1,4 +1,4 @@
--- `list_in::read_all` is safe and ends: its turns are counted down. Assumes nothing.
+-- `list_in::read_all` is safe and ends: its turns are counted down.
 use borrow.Author.Needs.{needs}
 use Rattle.list_in.proofs.read_all.Statement.{statement}
 use Rattle.list_in.proofs.read_all.Tie as tie

@@ -1,4 +1,4 @@
--- `list_in::take_part` meets its contract: with its line feed the line ends, and without one it goes on. Assumes nothing.
+-- `list_in::take_part` meets its contract: with its line feed the line ends, and without one it goes on.
 use denote.Ref.{now}
 use Rattle.gathering.proofs.CutLaws.{part-ends, part-goes-on}
 use borrow.Author.Needs.{needs}

@@ -1,4 +1,4 @@
--- `list_in::take_piece` meets its contract: it goes on by a line each turn, and a line has at least one byte. Assumes nothing.
+-- `list_in::take_piece` meets its contract: it goes on by a line each turn, and a line has at least one byte.
 use Prim.Native.Nat.{_-_, _≤_}
 use native.Mathlib.Omega.{arith}
 use lib.ListN.{length, take}

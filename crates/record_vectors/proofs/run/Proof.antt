@@ -1,4 +1,4 @@
--- `record_vectors::run` is safe and ends: it goes on by at least one byte each turn. Assumes nothing.
+-- `record_vectors::run` is safe and ends: it goes on by at least one byte each turn.
 use Prim.Native.Nat.{_-_, _≤_}
 use lib.ListN.{length}
 use borrow.Author.Needs.{needs}

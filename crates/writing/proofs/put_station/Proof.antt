@@ -1,10 +1,10 @@
--- `writing::put_station` meets its contract: each group is written after the one before it. Assumes nothing.
+-- `writing::put_station` meets its contract: each group is written after the one before it.
 use mathlib.Core.Path.{_≡_}
 use lib.ListN.{length, take, drop}
-use Rattle.station.specs.Groups.{channelPieces, sitePieces, emissionPieces, antennaPieces, filingPieces}
+use Rattle.station.specs.Groups.{channelPieces, sitePieces, emissionPieces, antennaPieces, coordinationPieces}
 use Rattle.station.specs.Spelling.{stationPieces, spellStation}
-use Rattle.writing.proofs.FitLaws.{channel-fits, site-fits, emission-fits, antenna-fits, filing-fits}
-use Rattle.filing.proofs.WriteLaws.{nothing-yet, then-some, all-written}
+use Rattle.writing.proofs.FitLaws.{channel-fits, site-fits, emission-fits, antenna-fits, coordination-fits}
+use Rattle.basics.proofs.WriteLaws.{nothing-yet, then-some, all-written}
 use borrow.Author.Needs.{needs}
 use native.Mathlib.Omega.{arith}
 use Rattle.writing.proofs.put_station.Statement.{statement}
@@ -58,26 +58,26 @@ part-put-antenna-end c = search needs
 put-antenna-requires : tie.Need-put-antenna-requires
 put-antenna-requires c κs = (search needs, antenna-fits (c .before .before .before .before .before .before .before .before .before .before .before .before .before .before .before .before .before .before .args .s) (c .before .before .before .before .before .before .before .before .before .before .before .before .before .before .before .before .before .before .pre .1))
 
-sub-put-filing : tie.Need-sub-put-filing
-sub-put-filing c = search needs
+sub-put-coordination : tie.Need-sub-put-coordination
+sub-put-coordination c = search needs
 
-part-put-filing-start : tie.Need-part-put-filing-start
-part-put-filing-start c = search needs
+part-put-coordination-start : tie.Need-part-put-coordination-start
+part-put-coordination-start c = search needs
 
-part-put-filing-end : tie.Need-part-put-filing-end
-part-put-filing-end c = search needs
+part-put-coordination-end : tie.Need-part-put-coordination-end
+part-put-coordination-end c = search needs
 
-put-filing-requires : tie.Need-put-filing-requires
-put-filing-requires c κs = (search needs, filing-fits (c .before .before .before .before .before .before .before .before .before .before .before .before .before .before .before .before .before .before .before .before .before .before .before .args .s) (c .before .before .before .before .before .before .before .before .before .before .before .before .before .before .before .before .before .before .before .before .before .before .before .pre .1))
+put-coordination-requires : tie.Need-put-coordination-requires
+put-coordination-requires c κs = (search needs, coordination-fits (c .before .before .before .before .before .before .before .before .before .before .before .before .before .before .before .before .before .before .before .before .before .before .before .args .s) (c .before .before .before .before .before .before .before .before .before .before .before .before .before .before .before .before .before .before .before .before .before .before .before .pre .1))
 
 same-length : tie.Need-same-length
 same-length c = search needs
 
 returns : tie.Need-returns
-unfolding spellStation stationPieces channelPieces sitePieces emissionPieces antennaPieces filingPieces
+unfolding spellStation stationPieces channelPieces sitePieces emissionPieces antennaPieces coordinationPieces
 returns c =
-    let filing = c .before .before in
-    let antenna = filing .before .before .before .before .before in
+    let coordination = c .before .before in
+    let antenna = coordination .before .before .before .before .before in
     let emission = antenna .before .before .before .before .before in
     let site = emission .before .before .before .before .before in
     let channel = site .before .before .before .before .before in
@@ -89,7 +89,7 @@ returns c =
     let w2 = then-some w1 55 (omega arith) (sitePieces (s .site)) (site .put-site .ensures) (site .put-site .kept .1 .0) in
     let w3 = then-some w2 26 (omega arith) (emissionPieces (s .emission)) (emission .put-emission .ensures) (emission .put-emission .kept .1 .0) in
     let w4 = then-some w3 24 (omega arith) (antennaPieces (s .antenna)) (antenna .put-antenna .ensures) (antenna .put-antenna .kept .1 .0) in
-    let w5 = then-some w4 94 (omega arith) (filingPieces (s .filing)) (filing .put-filing .ensures) (filing .put-filing .kept .1 .0) in
+    let w5 = then-some w4 94 (omega arith) (coordinationPieces (s .coordination)) (coordination .put-coordination .ensures) (coordination .put-coordination .kept .1 .0) in
     all-written w5 l
 
 pub put-station-spec : {M : Type 1} → statement M
@@ -112,9 +112,9 @@ put-station-spec =
     part-put-antenna-start
     part-put-antenna-end
     put-antenna-requires
-    sub-put-filing
-    part-put-filing-start
-    part-put-filing-end
-    put-filing-requires
+    sub-put-coordination
+    part-put-coordination-start
+    part-put-coordination-end
+    put-coordination-requires
     same-length
     returns)

@@ -1,11 +1,11 @@
--- `writing::write_station` meets its contract, by the three ways a call ends. Assumes nothing.
+-- `writing::write_station` meets its contract, by the three ways a call ends.
 use mathlib.Core.Path.{refl}
-use Rattle.filing.specs.Outcomes.{refusal}
-use Rattle.filing.specs.declared.Outcome.the-variants as outcome
+use Rattle.basics.specs.Outcomes.{refusal}
+use Rattle.basics.specs.declared.Outcome.the-variants as outcome
 use Rattle.station.specs.Spelling.{spellStation}
 use Rattle.station.specs.Codes.{typedCode}
 use Rattle.station.specs.Calls.{writeOutcome, writtenStation}
-use Rattle.filing.proofs.CallLaws.{wrong-length, rule-broken, call-done}
+use Rattle.basics.proofs.CallLaws.{wrong-length, rule-broken, call-done}
 use borrow.Author.Needs.{needs}
 use Rattle.writing.proofs.write_station.Statement.{statement}
 use Rattle.writing.proofs.write_station.Tie as tie

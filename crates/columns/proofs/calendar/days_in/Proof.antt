@@ -1,4 +1,4 @@
--- `columns::calendar::days_in` meets its contract, month by month. Assumes nothing.
+-- `columns::calendar::days_in` meets its contract, month by month.
 use mathlib.Core.Path.{_≡_, sym, ap, _∙_}
 use mathlib.Core.Bool.{Bool, cond}
 use Prim.Native.Nat.{ℕ}

@@ -1,4 +1,4 @@
--- `columns::calendar::is_leap` meets its contract. Assumes nothing.
+-- `columns::calendar::is_leap` meets its contract.
 use borrow.Author.Tests.{eq-eqb, ne-eqb}
 use Rattle.columns.proofs.calendar.is_leap.Statement.{statement}
 use Rattle.columns.proofs.calendar.is_leap.Tie as tie

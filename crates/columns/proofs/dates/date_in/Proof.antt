@@ -1,4 +1,4 @@
--- `columns::dates::date_in` meets its contract. Assumes nothing.
+-- `columns::dates::date_in` meets its contract.
 use mathlib.Core.Path.{_≡_}
 use denote.Ref.{now}
 use Rattle.columns.specs.Dates.{dateIn}

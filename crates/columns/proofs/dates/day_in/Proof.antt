@@ -1,4 +1,4 @@
--- `columns::dates::day_in` meets its contract, by the answer of the reader that it calls. Assumes nothing.
+-- `columns::dates::day_in` meets its contract, by the answer of the reader that it calls.
 use Rattle.columns.specs.Dates.{dayOf}
 use borrow.Author.Needs.{needs}
 use Rattle.columns.proofs.dates.day_in.Statement.{statement}

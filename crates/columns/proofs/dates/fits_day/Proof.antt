@@ -1,4 +1,4 @@
--- `columns::dates::fits_day` meets its contract. Assumes nothing.
+-- `columns::dates::fits_day` meets its contract.
 use mathlib.Core.Path.{sym, ap, _∙_}
 use Rattle.columns.specs.Dates.{dayFits}
 use borrow.Author.Needs.{needs}

@@ -1,4 +1,4 @@
--- `columns::dates::is_date` meets its contract. Assumes nothing.
+-- `columns::dates::is_date` meets its contract.
 use borrow.Author.Tests.{not-true, not-false}
 use Rattle.columns.specs.Dates.{dateRule}
 use borrow.Author.Needs.{needs}

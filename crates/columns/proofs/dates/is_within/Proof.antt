@@ -1,4 +1,4 @@
--- `columns::dates::is_within` meets its contract. Assumes nothing.
+-- `columns::dates::is_within` meets its contract.
 use mathlib.Core.Path.{refl}
 use borrow.Author.Tests.{le-leb, lt-leb}
 use Rattle.columns.proofs.dates.is_within.Statement.{statement}

@@ -1,4 +1,4 @@
--- `columns::dates::number_in` meets its contract. Assumes nothing.
+-- `columns::dates::number_in` meets its contract.
 use Prim.Native.Nat.{_<_, _^_}
 use mathlib.Core.Path.{_≡_, _∙_}
 use denote.Ref.{now}

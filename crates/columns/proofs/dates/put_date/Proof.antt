@@ -1,4 +1,4 @@
--- `columns::dates::put_date` meets its contract: each number is written in front of the next. Assumes nothing.
+-- `columns::dates::put_date` meets its contract: each number is written in front of the next.
 use denote.Ref.{now}
 use mathlib.Core.List.{[]}
 use Rattle.columns.specs.Numbers.{spellDigits}

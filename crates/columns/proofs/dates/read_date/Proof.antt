@@ -1,4 +1,4 @@
--- `columns::dates::read_date` meets its contract: each return rewrites with the tests on its way. Assumes nothing.
+-- `columns::dates::read_date` meets its contract: each return rewrites with the tests on its way.
 use mathlib.Core.Path.{_≡_, refl, sym, ap, _∙_}
 use mathlib.Core.Bool.{Bool, true, false, _&&_}
 use Prim.Native.Nat.{ℕ}

@@ -1,4 +1,4 @@
--- `columns::dates::write_day` meets its contract. Assumes nothing.
+-- `columns::dates::write_day` meets its contract.
 use Prim.Native.Nat.{ℕ}
 use mathlib.Core.Path.{_≡_, sym, ap, _∙_}
 use mathlib.Core.Bool.{Bool, and-false}

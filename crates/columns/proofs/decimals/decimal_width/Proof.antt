@@ -1,4 +1,4 @@
--- `columns::decimals::decimal_width` meets its contract, format by format. Assumes nothing.
+-- `columns::decimals::decimal_width` meets its contract, format by format.
 use mathlib.Core.Path.{sym, ap}
 use Rattle.columns.specs.Formats.{formatWidth}
 use borrow.Author.Needs.{needs}

@@ -1,4 +1,4 @@
--- `columns::decimals::fits_decimal` meets its contract. Assumes nothing.
+-- `columns::decimals::fits_decimal` meets its contract.
 use Prim.Native.Nat.{_+_, _^_}
 use mathlib.Core.Path.{_≡_, sym, ap, _∙_}
 use mathlib.Core.Bool.{Bool, not}

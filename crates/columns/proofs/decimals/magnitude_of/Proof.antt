@@ -1,4 +1,4 @@
--- `columns::decimals::magnitude_of` meets its contract. Assumes nothing.
+-- `columns::decimals::magnitude_of` meets its contract.
 use Prim.Native.Nat.{ℕ, _+_, _-_, _<_, _^_}
 use mathlib.Core.Path.{_≡_, sym, ap, _∙_}
 use native.Mathlib.Nat.{one-le-pow}

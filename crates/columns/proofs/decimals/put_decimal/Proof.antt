@@ -1,4 +1,4 @@
--- `columns::decimals::put_decimal` meets its contract. Assumes nothing.
+-- `columns::decimals::put_decimal` meets its contract.
 use mathlib.Core.Path.{sym, ap, _∙_}
 use mathlib.Core.Bool.{Bool, cond}
 use denote.Ref.{now}

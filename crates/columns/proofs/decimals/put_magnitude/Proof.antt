@@ -1,4 +1,4 @@
--- `columns::decimals::put_magnitude` meets its contract. Assumes nothing.
+-- `columns::decimals::put_magnitude` meets its contract.
 use mathlib.Core.Path.{_∙_}
 use native.Mathlib.Omega.{arith}
 use lib.ListN.{length-set}

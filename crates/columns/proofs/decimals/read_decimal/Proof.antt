@@ -1,4 +1,4 @@
--- `columns::decimals::read_decimal` meets its contract, by the law of numbers with a sign. Assumes nothing.
+-- `columns::decimals::read_decimal` meets its contract, by the law of numbers with a sign.
 use Rattle.columns.specs.Decimals.{magnitudeOf, decimalOf}
 use Rattle.columns.specs.Formats.{digitsBefore, digitsAfter, maySign}
 use Rattle.columns.proofs.TextLaws.{from-on}

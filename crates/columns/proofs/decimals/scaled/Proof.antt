@@ -1,5 +1,4 @@
 -- `columns::decimals::scaled` meets its contract. The invariant: with the zeros that are left it is the number asked for, and there is room for it.
--- Assumes nothing.
 use Prim.Native.Nat.{ℕ, zero, suc, _*_, _-_, _^_, _≤_, _<_}
 use mathlib.Core.Path.{_≡_, refl, sym, _∙_}
 use native.Mathlib.Nat.{mul-one}

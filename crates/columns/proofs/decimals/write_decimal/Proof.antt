@@ -1,4 +1,4 @@
--- `columns::decimals::write_decimal` meets its contract. Assumes nothing.
+-- `columns::decimals::write_decimal` meets its contract.
 use mathlib.Core.Path.{_≡_, sym, ap, _∙_}
 use mathlib.Core.Bool.{Bool, true, false, _&&_, and-false}
 use mir.Facts.{toZ-ofZ}

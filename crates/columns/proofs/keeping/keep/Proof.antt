@@ -1,4 +1,4 @@
--- `columns::keeping::keep` meets its contract: the text is copied whole, or every column is a space. Assumes nothing.
+-- `columns::keeping::keep` meets its contract: the text is copied whole, or every column is a space.
 use mathlib.Core.Path.{sym, _∙_}
 use mathlib.Core.List.{append-nil}
 use lib.ListN.{length, drop-of-length-le}

@@ -1,4 +1,4 @@
--- `columns::numbers::after_sign` meets its contract. Assumes nothing.
+-- `columns::numbers::after_sign` meets its contract.
 use Prim.Native.Nat.{_≤_}
 use mathlib.Core.Path.{sym, _∙_}
 use mathlib.Core.Logic.{inl, inr}

@@ -1,5 +1,5 @@
 -- `columns::numbers::digits` meets its contract. The invariant: what is left to read, onto the value so far, is what was to be read, and there is room for it.
--- The measure is how many places are left. Assumes nothing.
+-- The measure is how many places are left.
 use Prim.Native.Nat.{_≤_, _-_, _+_, _<_, _^_}
 use mathlib.Core.Path.{_≡_, refl, sym, ap, _∙_}
 use native.Mathlib.Nat.{zero-add, add-zero}

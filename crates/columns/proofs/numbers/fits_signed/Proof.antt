@@ -1,4 +1,4 @@
--- `columns::numbers::fits_signed` meets its contract. Assumes nothing.
+-- `columns::numbers::fits_signed` meets its contract.
 use mathlib.Core.Path.{_≡_, sym, _∙_}
 use lib.IntN.{natAbs}
 use borrow.Author.Tests.{lt-ltb}

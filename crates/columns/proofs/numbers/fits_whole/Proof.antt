@@ -1,4 +1,4 @@
--- `columns::numbers::fits_whole` meets its contract: with the places that are left, what is left of the number fits as the number does. Assumes nothing.
+-- `columns::numbers::fits_whole` meets its contract: with the places that are left, what is left of the number fits as the number does.
 use mathlib.Core.Path.{_≡_, refl, sym, ap, _∙_}
 use Rattle.columns.specs.Numbers.{wholeFits}
 use Rattle.columns.proofs.NumberLaws.{fits-turn, fits-zero, fits-none}

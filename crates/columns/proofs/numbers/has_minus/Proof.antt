@@ -1,4 +1,4 @@
--- `columns::numbers::has_minus` meets its contract. Assumes nothing.
+-- `columns::numbers::has_minus` meets its contract.
 use mathlib.Core.Path.{sym}
 use borrow.Author.Needs.{needs}
 use Rattle.columns.proofs.numbers.has_minus.Statement.{statement}

@@ -1,4 +1,4 @@
--- `columns::numbers::in_sign` meets its contract, case by case. Assumes nothing.
+-- `columns::numbers::in_sign` meets its contract, case by case.
 use mathlib.Core.Path.{sym, ap, _∙_}
 use mir.Facts.{toZ-ofZ}
 use Rattle.columns.specs.Numbers.{inSign}

@@ -1,4 +1,4 @@
--- `columns::numbers::is_negative` meets its contract. Assumes nothing.
+-- `columns::numbers::is_negative` meets its contract.
 use mir.Facts.{toZ-ofZ}
 use Rattle.columns.proofs.Signs.{below-zero}
 use Rattle.columns.proofs.numbers.is_negative.Statement.{statement}

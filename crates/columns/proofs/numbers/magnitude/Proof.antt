@@ -1,4 +1,4 @@
--- `columns::numbers::magnitude` meets its contract: the lowest number has a magnitude too. Assumes nothing.
+-- `columns::numbers::magnitude` meets its contract: the lowest number has a magnitude too.
 use Prim.Native.Nat.{ℕ, _^_, _<_}
 use mathlib.Core.Path.{_≡_, refl, sym, _∙_}
 use mathlib.Core.Bool.{true, false}

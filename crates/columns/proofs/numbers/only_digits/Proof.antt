@@ -1,4 +1,4 @@
--- `columns::numbers::only_digits` meets its contract. Assumes nothing.
+-- `columns::numbers::only_digits` meets its contract.
 use mathlib.Core.Path.{_≡_, sym, ap, _∙_}
 use mathlib.Core.Bool.{true, false}
 use lib.ListN.{length, drop}

@@ -1,5 +1,4 @@
 -- `columns::numbers::put_digits` meets its contract. The invariant: what is left to write, in front of what stands, is what was to be written.
--- Assumes nothing.
 use Prim.Native.Nat.{_≤_, _^_, _+_, _-_, _/_}
 use mathlib.Core.Path.{_≡_, refl, sym, _∙_}
 use native.Mathlib.Omega.{arith}

@@ -1,4 +1,4 @@
--- `columns::numbers::put_whole` meets its contract. Assumes nothing.
+-- `columns::numbers::put_whole` meets its contract.
 use native.Mathlib.Nat.{zero-add}
 use lib.Seq.{drop-length}
 use mathlib.Core.Path.{_∙_}

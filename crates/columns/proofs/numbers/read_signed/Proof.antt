@@ -1,4 +1,4 @@
--- `columns::numbers::read_signed` meets its contract, by the law of numbers with a sign. Assumes nothing.
+-- `columns::numbers::read_signed` meets its contract, by the law of numbers with a sign.
 use Rattle.columns.specs.Numbers.{wholeDigits, signedOf}
 use Rattle.columns.proofs.TextLaws.{from-on}
 use Rattle.columns.proofs.NumberLaws.{whole-small, number-blank, number-read}

@@ -1,4 +1,4 @@
--- `columns::numbers::read_whole` meets its contract. Assumes nothing.
+-- `columns::numbers::read_whole` meets its contract.
 use mathlib.Core.Path.{ap, _∙_}
 use Rattle.columns.specs.Numbers.{wholeDigits, wholeOf}
 use Rattle.columns.proofs.TextLaws.{at-end, not-at-end, from-on}

@@ -1,4 +1,4 @@
--- `columns::numbers::with_sign` meets its contract. Assumes nothing.
+-- `columns::numbers::with_sign` meets its contract.
 use mir.Syntax.{w64}
 use mir.Facts.{toZ-pos, toZ-ofZ}
 use lib.IntN.{pos, +ℤ-idl}

@@ -1,4 +1,4 @@
--- `columns::numbers::write_signed` meets its contract. Assumes nothing.
+-- `columns::numbers::write_signed` meets its contract.
 use Prim.Native.Nat.{ℕ, _<_}
 use mathlib.Core.Path.{_≡_, sym, ap, _∙_}
 use mathlib.Core.Bool.{true, false}

@@ -1,4 +1,4 @@
--- `columns::numbers::write_whole` meets its contract. Assumes nothing.
+-- `columns::numbers::write_whole` meets its contract.
 use mathlib.Core.Path.{sym, _∙_}
 use borrow.Author.Tests.{not-true, not-false}
 use Rattle.columns.proofs.TextLaws.{kept, wrote}

@@ -1,4 +1,4 @@
--- `columns::sets::has` meets its contract, set by set. Assumes nothing.
+-- `columns::sets::has` meets its contract, set by set.
 use mathlib.Core.Path.{_≡_, sym, ap, _∙_}
 use mathlib.Core.Bool.{Bool}
 use Prim.Native.Nat.{ℕ}

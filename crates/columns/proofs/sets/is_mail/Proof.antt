@@ -1,4 +1,4 @@
--- `columns::sets::is_mail` meets its contract: the bytes named singly are answered as the set answers, and the others by the text set. Assumes nothing.
+-- `columns::sets::is_mail` meets its contract: the bytes named singly are answered as the set answers, and the others by the text set.
 use mathlib.Core.Bool.{true, or-false}
 use mathlib.Core.List.{[], _∷_}
 use mathlib.Core.Logic.{inl, inr}

@@ -1,4 +1,4 @@
--- `columns::sets::is_narrow` meets its contract: each run of bytes, and the bytes named singly, are answered as the set answers. Assumes nothing.
+-- `columns::sets::is_narrow` meets its contract: each run of bytes, and the bytes named singly, are answered as the set answers.
 use mathlib.Core.Bool.{true, false}
 use mathlib.Core.List.{[], _∷_}
 use native.Mathlib.Omega.{arith}

@@ -1,4 +1,4 @@
--- `columns::texts::all_in` meets its contract: the bytes that were passed are of the set. Assumes nothing.
+-- `columns::texts::all_in` meets its contract: the bytes that were passed are of the set.
 use Prim.Native.Nat.{_-_}
 use mathlib.Core.Path.{_≡_, refl, sym, _∙_}
 use lib.ListN.{length, drop}

@@ -1,4 +1,4 @@
--- `columns::texts::byte` meets its contract. Assumes nothing.
+-- `columns::texts::byte` meets its contract.
 use mathlib.Core.Path.{sym}
 use lib.ListN.{List·getD-eq-default}
 use denote.Ref.{now}

@@ -1,4 +1,4 @@
--- `columns::texts::equal` meets its contract: what was passed from the back is equal. Assumes nothing.
+-- `columns::texts::equal` meets its contract: what was passed from the back is equal.
 use Prim.Native.Nat.{ℕ, _≤_}
 use mathlib.Core.Path.{_≡_, sym, ap, _∙_}
 use lib.ListN.{length, take}

@@ -1,4 +1,4 @@
--- `columns::texts::is_blank` meets its contract: nothing is left after the spaces. Assumes nothing.
+-- `columns::texts::is_blank` meets its contract: nothing is left after the spaces.
 use mathlib.Core.Path.{sym}
 use Rattle.columns.proofs.TextLaws.{ended-drop}
 use borrow.Author.Needs.{needs}

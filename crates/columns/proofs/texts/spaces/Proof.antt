@@ -1,4 +1,4 @@
--- `columns::texts::spaces` meets its contract: the spaces that were passed are skipped. Assumes nothing.
+-- `columns::texts::spaces` meets its contract: the spaces that were passed are skipped.
 use Prim.Native.Nat.{_≤_, _-_}
 use mathlib.Core.Path.{_≡_, refl, _∙_}
 use lib.ListN.{length, drop}

@@ -1,4 +1,4 @@
--- `columns::texts::trimmed_length` meets its contract: what was passed from the back is spaces. Assumes nothing.
+-- `columns::texts::trimmed_length` meets its contract: what was passed from the back is spaces.
 use Prim.Native.Nat.{ℕ, zero, _≤_}
 use mathlib.Core.Path.{_≡_, refl, sym, ap, _∙_}
 use lib.ListN.{length, take}

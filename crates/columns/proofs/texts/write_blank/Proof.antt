@@ -1,4 +1,4 @@
--- `columns::texts::write_blank` meets its contract: the columns that were passed are spaces. Assumes nothing.
+-- `columns::texts::write_blank` meets its contract: the columns that were passed are spaces.
 use Prim.Native.Nat.{ℕ, _-_, _≤_}
 use mathlib.Core.Path.{_≡_, refl, ap, _∙_}
 use mathlib.Core.List.{List, _++_}

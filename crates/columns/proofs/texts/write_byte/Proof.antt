@@ -1,4 +1,4 @@
--- `columns::texts::write_byte` meets its contract. Assumes nothing.
+-- `columns::texts::write_byte` meets its contract.
 use mathlib.Core.Path.{_≡_, refl}
 use mathlib.Core.List.{List, [], _∷_}
 use Prim.Native.Nat.{ℕ, suc}

@@ -1,4 +1,4 @@
--- `columns::texts::write_text` meets its contract. Assumes nothing.
+-- `columns::texts::write_text` meets its contract.
 use mathlib.Core.Path.{_∙_}
 use mathlib.Core.List.{append-nil}
 use lib.ListN.{length, drop-of-length-le}

@@ -1,4 +1,4 @@
--- `desk_c::listing::desk_list_out` meets its contract. Assumes nothing.
+-- `desk_c::listing::desk_list_out` meets its contract.
 use Rattle.desk_c.proofs.EndingLaws.{answered}
 use borrow.Author.Needs.{needs}
 use Rattle.desk_c.proofs.listing.desk_list_out.Statement.{statement}

@@ -1,4 +1,4 @@
--- `desk_c::reasons::desk_line_marks` meets its contract. Assumes nothing.
+-- `desk_c::reasons::desk_line_marks` meets its contract.
 use denote.Ref.{now}
 use Rattle.desk_c.proofs.ReasonLaws.{marks-told}
 use borrow.Author.Needs.{needs}

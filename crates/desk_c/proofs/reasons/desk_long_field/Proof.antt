@@ -1,4 +1,4 @@
--- `desk_c::reasons::desk_long_field` meets its contract. Assumes nothing.
+-- `desk_c::reasons::desk_long_field` meets its contract.
 use denote.Ref.{now}
 use borrow.Author.Tests.{eq-eqb, ne-eqb}
 use Rattle.desk_c.proofs.ReasonLaws.{long-field-told}

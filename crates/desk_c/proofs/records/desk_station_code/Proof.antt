@@ -1,4 +1,4 @@
--- `desk_c::records::desk_station_code` meets its contract. Assumes nothing.
+-- `desk_c::records::desk_station_code` meets its contract.
 use Rattle.desk_c.proofs.EndingLaws.{answered}
 use borrow.Author.Needs.{needs}
 use Rattle.desk_c.proofs.records.desk_station_code.Statement.{statement}

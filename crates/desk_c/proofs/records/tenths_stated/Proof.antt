@@ -1,4 +1,4 @@
--- `desk_c::records::tenths_stated` meets its contract. Assumes nothing.
+-- `desk_c::records::tenths_stated` meets its contract.
 use mir.Facts.{toZ-ofZ}
 use borrow.Author.Tests.{ne-eqb}
 use Rattle.desk_c.specs.Records.{tenthsStated}

@@ -1,10 +1,10 @@
--- `faults::fields::long_field` meets its contract: so many fields are passed, and the others are still to come. Assumes nothing.
+-- `faults::fields::long_field` meets its contract: so many fields are passed, and the others are still to come.
 use denote.Ref.{now}
 use mathlib.Core.Path.{_≡_, ap, _∙_}
 use Prim.Native.Nat.{_+_, _-_, _≤_}
 use lib.ListN.{length, getD}
 use Rattle.columns.proofs.TextLaws.{from-on}
-use Rattle.filing.specs.declared.Place.{Place}
+use Rattle.basics.specs.declared.Place.{Place}
 use Rattle.station.specs.Places.{stationPlaces}
 use Rattle.lists.specs.Lines.{lineFields}
 use Rattle.faults.specs.Faults.{longField}

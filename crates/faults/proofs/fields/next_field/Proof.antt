@@ -1,4 +1,4 @@
--- `faults::fields::next_field` meets its contract: behind the last byte nothing stands. Assumes nothing.
+-- `faults::fields::next_field` meets its contract: behind the last byte nothing stands.
 use denote.Ref.{now}
 use mathlib.Core.Path.{sym, _∙_}
 use Prim.Native.Nat.{_+_, _≤_}

@@ -1,4 +1,4 @@
--- `faults::marking::ends_in_feed` meets its contract. Assumes nothing.
+-- `faults::marking::ends_in_feed` meets its contract.
 use denote.Ref.{now}
 use mathlib.Core.Path.{ap}
 use Prim.Native.Nat.{ℕ}

@@ -1,4 +1,4 @@
--- `faults::marking::has_marks` meets its contract. Assumes nothing.
+-- `faults::marking::has_marks` meets its contract.
 use borrow.Author.Tests.{eq-eqb, ne-eqb}
 use Rattle.faults.specs.Faults.{hasMarks}
 use Rattle.faults.proofs.marking.has_marks.Statement.{statement}

@@ -1,4 +1,4 @@
--- `faults::marking::line_marks` meets its contract. Assumes nothing.
+-- `faults::marking::line_marks` meets its contract.
 use Rattle.faults.specs.Faults.{marksOf}
 use borrow.Author.Needs.{needs}
 use Rattle.faults.proofs.marking.line_marks.Statement.{statement}

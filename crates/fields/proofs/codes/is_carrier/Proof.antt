@@ -1,4 +1,4 @@
--- `fields::codes::is_carrier` meets its contract: each run of bytes, and the bytes named singly, are answered as the letters answer. Assumes nothing.
+-- `fields::codes::is_carrier` meets its contract: each run of bytes, and the bytes named singly, are answered as the letters answer.
 use mathlib.Core.List.{[]}
 use native.Mathlib.Omega.{arith}
 use Rattle.fields.proofs.LetterLaws.{letter-run}

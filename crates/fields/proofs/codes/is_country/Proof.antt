@@ -1,4 +1,4 @@
--- `fields::codes::is_country` meets its contract: each return rewrites with the places that were passed. Assumes nothing.
+-- `fields::codes::is_country` meets its contract: each return rewrites with the places that were passed.
 use Prim.Native.Nat.{ℕ}
 use mathlib.Core.Path.{_≡_, refl}
 use mathlib.Core.Bool.{true, cond, _&&_}

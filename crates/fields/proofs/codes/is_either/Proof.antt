@@ -1,4 +1,4 @@
--- `fields::codes::is_either` meets its contract: each return rewrites with the choices that were tried before it. Assumes nothing.
+-- `fields::codes::is_either` meets its contract: each return rewrites with the choices that were tried before it.
 use Rattle.fields.proofs.AnswerLaws.{told}
 use borrow.Author.Needs.{needs}
 use Rattle.fields.proofs.codes.is_either.Statement.{statement}

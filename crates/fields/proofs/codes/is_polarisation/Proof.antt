@@ -1,4 +1,4 @@
--- `fields::codes::is_polarisation` meets its contract: each return rewrites with the choices that were tried before it. Assumes nothing.
+-- `fields::codes::is_polarisation` meets its contract: each return rewrites with the choices that were tried before it.
 use mathlib.Core.Bool.{or-false}
 use Rattle.fields.proofs.AnswerLaws.{told}
 use Rattle.fields.proofs.ChoiceLaws.{oneOf-four, oneOf-none}

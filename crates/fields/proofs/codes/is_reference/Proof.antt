@@ -1,4 +1,4 @@
--- `fields::codes::is_reference` meets its contract: each return rewrites with the parts that were passed. Assumes nothing.
+-- `fields::codes::is_reference` meets its contract: each return rewrites with the parts that were passed.
 use Prim.Native.Nat.{ℕ}
 use mathlib.Core.Path.{_≡_, sym}
 use mathlib.Core.Bool.{_&&_}

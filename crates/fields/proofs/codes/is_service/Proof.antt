@@ -1,4 +1,4 @@
--- `fields::codes::is_service` meets its contract: each return rewrites with the choices that were tried before it. Assumes nothing.
+-- `fields::codes::is_service` meets its contract: each return rewrites with the choices that were tried before it.
 use Rattle.fields.proofs.AnswerLaws.{told}
 use Rattle.fields.proofs.ChoiceLaws.{oneOf-four, oneOf-one}
 use borrow.Author.Needs.{needs}

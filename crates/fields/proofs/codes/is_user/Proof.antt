@@ -1,4 +1,4 @@
--- `fields::codes::is_user` meets its contract: each run of bytes, and the bytes named singly, are answered as the set answers. Assumes nothing.
+-- `fields::codes::is_user` meets its contract: each run of bytes, and the bytes named singly, are answered as the set answers.
 use mathlib.Core.Bool.{true, false}
 use mathlib.Core.List.{[]}
 use native.Mathlib.Omega.{arith}

@@ -1,4 +1,4 @@
--- `fields::distances::fits_ground` meets its contract: the sign and the magnitude are the number's own. Assumes nothing.
+-- `fields::distances::fits_ground` meets its contract: the sign and the magnitude are the number's own.
 use mathlib.Core.Path.{_≡_, _∙_}
 use Rattle.columns.specs.Numbers.{isNegative}
 use Rattle.fields.specs.Distances.{groundFits}

@@ -1,4 +1,4 @@
--- `fields::distances::fits_height` meets its contract: the range is that of a number with a sign in four columns. Assumes nothing.
+-- `fields::distances::fits_height` meets its contract: the range is that of a number with a sign in four columns.
 use mathlib.Core.Path.{sym, ap, _∙_}
 use Rattle.fields.specs.Distances.{heightFits}
 use Rattle.columns.proofs.Signs.{in-bits}

@@ -1,4 +1,4 @@
--- `fields::distances::fits_radius` meets its contract: it is the rule on whole numbers in five columns. Assumes nothing.
+-- `fields::distances::fits_radius` meets its contract: it is the rule on whole numbers in five columns.
 use Rattle.fields.specs.Distances.{radiusFits}
 use borrow.Author.Needs.{needs}
 use Rattle.fields.proofs.distances.fits_radius.Statement.{statement}

@@ -1,4 +1,4 @@
--- `fields::distances::is_height` meets its contract, case by case. Assumes nothing.
+-- `fields::distances::is_height` meets its contract, case by case.
 use mathlib.Core.Path.{sym, ap, _∙_}
 use Rattle.columns.specs.Numbers.{passes}
 use Rattle.fields.specs.Distances.{heightRange, heightGood}

@@ -1,4 +1,4 @@
--- `fields::distances::is_whole_filled` meets its contract: the answer is told of what was read. Assumes nothing.
+-- `fields::distances::is_whole_filled` meets its contract: the answer is told of what was read.
 use mathlib.Core.Path.{ap, _∙_}
 use Rattle.columns.specs.Numbers.{wholeFilled}
 use borrow.Author.Needs.{needs}
@@ -8,11 +8,11 @@ use Rattle.fields.proofs.distances.is_whole_filled.Tie as tie
 read-whole-requires : tie.Need-read-whole-requires
 read-whole-requires c κs = search needs
 
-is-filled-requires : tie.Need-is-filled-requires
-is-filled-requires c κs = search needs
+says-number-requires : tie.Need-says-number-requires
+says-number-requires c κs = search needs
 
 returns : tie.Need-returns
-returns c = c .is-filled .ensures ∙ ap wholeFilled (c .before .read-whole .ensures)
+returns c = c .says-number .ensures ∙ ap wholeFilled (c .before .read-whole .ensures)
 
 pub is-whole-filled-spec : {M : Type 1} → statement M
-is-whole-filled-spec = tie.close (tie.spec read-whole-requires is-filled-requires returns)
+is-whole-filled-spec = tie.close (tie.spec read-whole-requires says-number-requires returns)

@@ -1,4 +1,4 @@
--- `fields::distances::read_ground` meets its contract: what the columns say is in range. Assumes nothing.
+-- `fields::distances::read_ground` meets its contract: what the columns say is in range.
 use Prim.Native.Nat.{_^_, _<_}
 use mathlib.Core.Path.{_≡_, ap, _∙_}
 use native.Mathlib.Omega.{arith}

@@ -1,4 +1,4 @@
--- `fields::distances::read_height` meets its contract, case by case. Assumes nothing.
+-- `fields::distances::read_height` meets its contract, case by case.
 use mathlib.Core.Path.{sym, ap, _∙_}
 use Rattle.fields.specs.Distances.{inMetres, heightOf}
 use Rattle.columns.proofs.Signs.{in-bits}

@@ -1,4 +1,4 @@
--- `fields::distances::read_radius` meets its contract: the number is what was read. Assumes nothing.
+-- `fields::distances::read_radius` meets its contract: the number is what was read.
 use Rattle.fields.specs.Distances.{radiusOf}
 use borrow.Author.Needs.{needs}
 use Rattle.fields.proofs.distances.read_radius.Statement.{statement}

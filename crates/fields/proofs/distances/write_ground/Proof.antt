@@ -1,4 +1,4 @@
--- `fields::distances::write_ground` meets its contract: the tests on the way are those of the promise. Assumes nothing.
+-- `fields::distances::write_ground` meets its contract: the tests on the way are those of the promise.
 use mathlib.Core.Path.{_∙_}
 use borrow.Author.Tests.{eq-eqb, ne-eqb}
 use denote.Ref.{now}

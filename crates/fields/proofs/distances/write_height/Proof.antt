@@ -1,4 +1,4 @@
--- `fields::distances::write_height` meets its contract: in four columns the range is that of a number with a sign. Assumes nothing.
+-- `fields::distances::write_height` meets its contract: in four columns the range is that of a number with a sign.
 use Prim.Native.Nat.{ℕ}
 use mathlib.Core.Path.{sym, ap, _∙_}
 use lib.ListN.{replicate}

@@ -1,4 +1,4 @@
--- `fields::distances::write_radius` meets its contract: in five columns it is the writer of whole numbers. Assumes nothing.
+-- `fields::distances::write_radius` meets its contract: in five columns it is the writer of whole numbers.
 use borrow.Author.Tests.{eq-eqb, ne-eqb}
 use Rattle.fields.specs.Distances.{radiusFits, spellRadius}
 use Rattle.columns.proofs.TextLaws.{kept}

@@ -1,4 +1,4 @@
--- `fields::emission::holding` meets its contract: the count and what the rest holds make up the whole. Assumes nothing.
+-- `fields::emission::holding` meets its contract: the count and what the rest holds make up the whole.
 use Prim.Native.Nat.{ℕ, _+_, _-_, _≤_}
 use mathlib.Core.Path.{_≡_, sym, _∙_}
 use mathlib.Core.Bool.{Bool, true, false, cond}

@@ -1,4 +1,4 @@
--- `fields::emission::is_bandwidth` meets its contract: each return rewrites with the tests on its way. Assumes nothing.
+-- `fields::emission::is_bandwidth` meets its contract: each return rewrites with the tests on its way.
 use mathlib.Core.Path.{ap}
 use mathlib.Core.Bool.{not}
 use borrow.Author.Tests.{eq-eqb, ne-eqb}

@@ -1,4 +1,4 @@
--- `fields::emission::is_emission` meets its contract: each return rewrites with the tests on its way. Assumes nothing.
+-- `fields::emission::is_emission` meets its contract: each return rewrites with the tests on its way.
 use borrow.Author.Tests.{eq-eqb, ne-eqb}
 use Rattle.fields.specs.Emission.{emissionGood}
 use Rattle.fields.proofs.AnswerLaws.{passed, failed}

@@ -1,4 +1,4 @@
--- `fields::emission::is_end` meets its contract: each return rewrites with the tests on its way, and a space is no detail. Assumes nothing.
+-- `fields::emission::is_end` meets its contract: each return rewrites with the tests on its way, and a space is no detail.
 use mathlib.Core.Path.{sym}
 use mathlib.Core.Bool.{or-false}
 use borrow.Author.Tests.{eq-eqb, ne-eqb, not-true, not-false}

@@ -1,4 +1,4 @@
--- `fields::emission::is_signal` meets its contract: each run of bytes, and the bytes named singly, are answered as the letters answer. Assumes nothing.
+-- `fields::emission::is_signal` meets its contract: each run of bytes, and the bytes named singly, are answered as the letters answer.
 use mathlib.Core.List.{[], _∷_}
 use native.Mathlib.Omega.{arith}
 use Rattle.fields.proofs.LetterLaws.{letter-run, letter-key}

@@ -1,4 +1,4 @@
--- `fields::frequencies::fits_frequency` meets its contract: a filled amount has its digits in their places and is above zero. Assumes nothing.
+-- `fields::frequencies::fits_frequency` meets its contract: a filled amount has its digits in their places and is above zero.
 use mathlib.Core.Path.{sym, _∙_}
 use borrow.Author.Tests.{not-true, not-false}
 use Rattle.fields.specs.Frequencies.{frequencyFits}

@@ -1,4 +1,4 @@
--- `fields::frequencies::is_amount` meets its contract: each arm is the answer that the columns say. Assumes nothing.
+-- `fields::frequencies::is_amount` meets its contract: each arm is the answer that the columns say.
 use mathlib.Core.Path.{sym, ap, _∙_}
 use Rattle.columns.specs.Numbers.{passes}
 use Rattle.fields.specs.Frequencies.{aboveZero, amountGood}

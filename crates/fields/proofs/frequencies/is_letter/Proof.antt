@@ -1,4 +1,4 @@
--- `fields::frequencies::is_letter` meets its contract: the letters are named singly. Assumes nothing.
+-- `fields::frequencies::is_letter` meets its contract: the letters are named singly.
 use mathlib.Core.Bool.{true, false}
 use mathlib.Core.List.{[], _∷_}
 use Rattle.columns.specs.Sets.{among}

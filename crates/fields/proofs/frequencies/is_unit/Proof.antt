@@ -1,4 +1,4 @@
--- `fields::frequencies::is_unit` meets its contract: one column, and in it a space or a letter. Assumes nothing.
+-- `fields::frequencies::is_unit` meets its contract: one column, and in it a space or a letter.
 use mathlib.Core.Path.{sym, _∙_}
 use Rattle.fields.proofs.FrequencyLaws.{unit-short, unit-blank, unit-filled}
 use borrow.Author.Needs.{needs}

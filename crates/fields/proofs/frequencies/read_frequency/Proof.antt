@@ -1,4 +1,4 @@
--- `fields::frequencies::read_frequency` meets its contract: each arm is the answer that the columns say. Assumes nothing.
+-- `fields::frequencies::read_frequency` meets its contract: each arm is the answer that the columns say.
 use mathlib.Core.Path.{sym, ap, _∙_}
 use Rattle.columns.specs.Texts.{head}
 use Rattle.columns.specs.declared.numbers.Signed.{Signed}

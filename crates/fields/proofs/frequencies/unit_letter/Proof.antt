@@ -1,4 +1,4 @@
--- `fields::frequencies::unit_letter` meets its contract, unit by unit. Assumes nothing.
+-- `fields::frequencies::unit_letter` meets its contract, unit by unit.
 use mathlib.Core.Path.{sym, ap}
 use Rattle.fields.specs.Frequencies.{unitLetter}
 use borrow.Author.Needs.{needs}

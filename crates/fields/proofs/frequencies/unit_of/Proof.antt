@@ -1,4 +1,4 @@
--- `fields::frequencies::unit_of` meets its contract: each return rewrites with the tests on its way. Assumes nothing.
+-- `fields::frequencies::unit_of` meets its contract: each return rewrites with the tests on its way.
 use borrow.Author.Tests.{eq-eqb, ne-eqb}
 use Rattle.fields.specs.Frequencies.{unitOf}
 use Rattle.fields.proofs.frequencies.unit_of.Statement.{statement}

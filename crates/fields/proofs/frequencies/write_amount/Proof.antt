@@ -1,4 +1,4 @@
--- `fields::frequencies::write_amount` meets its contract: an amount that fits is spelled by the writer of decimals, and none by spaces. Assumes nothing.
+-- `fields::frequencies::write_amount` meets its contract: an amount that fits is spelled by the writer of decimals, and none by spaces.
 use Prim.Native.Nat.{ℕ}
 use mathlib.Core.Path.{_≡_, sym, ap, _∙_}
 use mathlib.Core.Bool.{true, and-false}

@@ -1,4 +1,4 @@
--- `fields::frequencies::write_unit` meets its contract: the byte that is set is all that stands there. Assumes nothing.
+-- `fields::frequencies::write_unit` meets its contract: the byte that is set is all that stands there.
 use Prim.Native.Nat.{ℕ}
 use mathlib.Core.Path.{sym, ap, _∙_}
 use mathlib.Core.List.{[], _∷_}

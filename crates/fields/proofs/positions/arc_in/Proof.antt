@@ -1,4 +1,4 @@
--- `fields::positions::arc_in` meets its contract: each part is as wide as its number. Assumes nothing.
+-- `fields::positions::arc_in` meets its contract: each part is as wide as its number.
 use Prim.Native.Nat.{_+_, _-_}
 use mathlib.Core.Path.{_≡_}
 use native.Mathlib.Omega.{arith}

@@ -1,4 +1,4 @@
--- `fields::positions::arc_seconds` meets its contract: the sign is told by the letter. Assumes nothing.
+-- `fields::positions::arc_seconds` meets its contract: the sign is told by the letter.
 use mathlib.Core.Path.{_∙_}
 use Rattle.columns.proofs.Signs.{in-bits}
 use borrow.Author.Needs.{needs}

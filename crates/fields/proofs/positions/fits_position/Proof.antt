@@ -1,4 +1,4 @@
--- `fields::positions::fits_position` meets its contract: both magnitudes are told. Assumes nothing.
+-- `fields::positions::fits_position` meets its contract: both magnitudes are told.
 use mathlib.Core.Path.{_≡_}
 use lib.IntN.{natAbs}
 use borrow.Author.Tests.{le-leb, lt-leb}

@@ -1,4 +1,4 @@
--- `fields::positions::is_arc` meets its contract: each return rewrites with the tests on its way. Assumes nothing.
+-- `fields::positions::is_arc` meets its contract: each return rewrites with the tests on its way.
 use mathlib.Core.Path.{_≡_, sym, _∙_}
 use mathlib.Core.Bool.{true, false, _&&_, _||_}
 use native.Mathlib.Omega.{arith}
@@ -16,7 +16,7 @@ degrees-pass c = sym (c .before .is-up-to .ensures) ∙ not-false _ (c .if1 .lef
 
 -- the letter,
 letter-passes : (c : tie.Else2) → let r = c .before .before .before .before .args in (eqb (r .a .letter) (r .plus) || (eqb (r .a .letter) (r .minus) || false)) ≡ true
-letter-passes c = sym (c .before .is-either .ensures) ∙ not-false _ (c .if2 .left)
+letter-passes c = sym (c .before .is-hemisphere .ensures) ∙ not-false _ (c .if2 .left)
 
 -- minutes,
 minutes-pass : (c : tie.Else3) → let r = c .before .before .before .before .before .before .args in (wholeFilled (r .a .minutes) && leb (amount (r .a .minutes)) 59) ≡ true
@@ -32,11 +32,11 @@ is-up-to-requires c κs = search needs
 returns : tie.Need-returns
 returns c = rw (← c .before .is-up-to .ensures, not-true (c .before .is-up-to .result) (c .if1 .taken))
 
-is-either-requires : tie.Need-is-either-requires
-is-either-requires c κs = search needs
+is-hemisphere-requires : tie.Need-is-hemisphere-requires
+is-hemisphere-requires c κs = search needs
 
 returns-2 : tie.Need-returns-2
-returns-2 c = rw (degrees-pass (c .before .before), ← c .before .is-either .ensures, not-true (c .before .is-either .result) (c .if2 .taken))
+returns-2 c = rw (degrees-pass (c .before .before), ← c .before .is-hemisphere .ensures, not-true (c .before .is-hemisphere .result) (c .if2 .taken))
 
 is-up-to-requires-2 : tie.Need-is-up-to-requires-2
 is-up-to-requires-2 c κs = search needs
@@ -78,7 +78,7 @@ is-arc-spec =
     (tie.spec
     is-up-to-requires
     returns
-    is-either-requires
+    is-hemisphere-requires
     returns-2
     is-up-to-requires-2
     returns-3

@@ -1,4 +1,4 @@
--- `fields::positions::letter_of` meets its contract: the sign was told. Assumes nothing.
+-- `fields::positions::letter_of` meets its contract: the sign was told.
 use mathlib.Core.Path.{_≡_}
 use mir.Facts.{toZ-ofZ}
 use Rattle.columns.specs.Numbers.{isNegative}

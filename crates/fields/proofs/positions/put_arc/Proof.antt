@@ -1,4 +1,4 @@
--- `fields::positions::put_arc` meets its contract: each number is written in front of the next. Assumes nothing.
+-- `fields::positions::put_arc` meets its contract: each number is written in front of the next.
 use mathlib.Core.Path.{_∙_}
 use native.Mathlib.Omega.{arith}
 use lib.ListN.{length-set}

@@ -1,4 +1,4 @@
--- `fields::positions::read_position` meets its contract: what was read of each half keeps its rule and says its value. Assumes nothing.
+-- `fields::positions::read_position` meets its contract: what was read of each half keeps its rule and says its value.
 use mathlib.Core.Path.{_≡_, sym, ap, _∙_}
 use mathlib.Core.Bool.{true}
 use native.Mathlib.Omega.{arith}

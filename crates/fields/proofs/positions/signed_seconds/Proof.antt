@@ -1,4 +1,4 @@
--- `fields::positions::signed_seconds` meets its contract: a million is in range either way. Assumes nothing.
+-- `fields::positions::signed_seconds` meets its contract: a million is in range either way.
 use mir.Syntax.{w64}
 use mir.Facts.{toZ-pos, toZ-ofZ}
 use lib.IntN.{pos, +ℤ-idl}

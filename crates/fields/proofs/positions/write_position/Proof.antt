@@ -1,4 +1,4 @@
--- `fields::positions::write_position` meets its contract: the tests on the way are those of the promise. Assumes nothing.
+-- `fields::positions::write_position` meets its contract: the tests on the way are those of the promise.
 use borrow.Author.Tests.{eq-eqb, ne-eqb}
 use denote.Ref.{now}
 use Rattle.columns.specs.Texts.{sized}
@@ -17,8 +17,8 @@ fits-position-requires c κs = search needs
 returns-2 : tie.Need-returns-2
 returns-2 c = kept _ (refused (sized 15 (now (c .before .before .before .before .args .s))) (c .before .fits-position .ensures) (c .if2 .taken))
 
-put-position-requires : tie.Need-put-position-requires
-put-position-requires c κs = search needs
+put-arcs-requires : tie.Need-put-arcs-requires
+put-arcs-requires c κs = search needs
 
 same-length : tie.Need-same-length
 same-length c = search needs
@@ -26,9 +26,9 @@ same-length c = search needs
 returns-3 : tie.Need-returns-3
 returns-3 c =
     let f = c .before .before .before .before in
-    wrote _ (passed (eq-eqb _ _ (f .before .before .if1 .left)) (f .before .fits-position .ensures) (f .if2 .left)) (c .before .before .put-position .ensures)
+    wrote _ (passed (eq-eqb _ _ (f .before .before .if1 .left)) (f .before .fits-position .ensures) (f .if2 .left)) (c .before .before .put-arcs .ensures)
 
 pub write-position-spec : {M : Type 1} → statement M
 write-position-spec =
     tie.close
-    (tie.spec returns fits-position-requires returns-2 put-position-requires same-length returns-3)
+    (tie.spec returns fits-position-requires returns-2 put-arcs-requires same-length returns-3)

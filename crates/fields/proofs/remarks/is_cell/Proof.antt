@@ -1,4 +1,4 @@
--- `fields::remarks::is_cell` meets its contract: the rest after the spaces is tested. Assumes nothing.
+-- `fields::remarks::is_cell` meets its contract: the rest after the spaces is tested.
 use Rattle.fields.specs.Remarks.{cellGood}
 use Rattle.columns.proofs.TextLaws.{from-on}
 use borrow.Author.Needs.{needs}

@@ -1,4 +1,4 @@
--- `fields::remarks::is_installation` meets its contract: each return rewrites with the tests on its way. Assumes nothing.
+-- `fields::remarks::is_installation` meets its contract: each return rewrites with the tests on its way.
 use Rattle.fields.specs.Remarks.{installationGood}
 use Rattle.fields.proofs.AnswerLaws.{told, passed, failed}
 use borrow.Author.Needs.{needs}

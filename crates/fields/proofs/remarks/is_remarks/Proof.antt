@@ -1,4 +1,4 @@
--- `fields::remarks::is_remarks` meets its contract: each return rewrites with the tests on its way. Assumes nothing.
+-- `fields::remarks::is_remarks` meets its contract: each return rewrites with the tests on its way.
 use borrow.Author.Tests.{eq-eqb, ne-eqb}
 use Rattle.fields.specs.Remarks.{remarksGood}
 use Rattle.fields.proofs.AnswerLaws.{told, passed, failed}

@@ -1,4 +1,4 @@
--- `fields::tenths::fits_tenths` meets its contract: a filled value has its digits in their places and is in range. Assumes nothing.
+-- `fields::tenths::fits_tenths` meets its contract: a filled value has its digits in their places and is in range.
 use mathlib.Core.Path.{_≡_, sym, _∙_}
 use borrow.Author.Tests.{not-true, not-false}
 use Rattle.columns.specs.Formats.{formatFits}

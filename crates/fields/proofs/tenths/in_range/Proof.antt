@@ -1,4 +1,4 @@
--- `fields::tenths::in_range` meets its contract, format by format. Assumes nothing.
+-- `fields::tenths::in_range` meets its contract, format by format.
 use mir.Facts.{toZ-ofZ}
 use borrow.Author.Needs.{needs}
 use Rattle.fields.proofs.tenths.in_range.Statement.{statement}

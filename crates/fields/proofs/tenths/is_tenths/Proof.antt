@@ -1,4 +1,4 @@
--- `fields::tenths::is_tenths` meets its contract: each arm is the answer that the columns say. Assumes nothing.
+-- `fields::tenths::is_tenths` meets its contract: each arm is the answer that the columns say.
 use mathlib.Core.Path.{sym, ap, _∙_}
 use Rattle.columns.specs.Numbers.{passes}
 use Rattle.fields.specs.Tenths.{tenthsGood}

@@ -1,4 +1,4 @@
--- `fields::tenths::read_tenths` meets its contract: each arm is the answer that the columns say. Assumes nothing.
+-- `fields::tenths::read_tenths` meets its contract: each arm is the answer that the columns say.
 use mathlib.Core.Path.{sym, ap, _∙_}
 use Rattle.fields.specs.declared.tenths.Tenths.the-variants as tenths
 use Rattle.fields.specs.Tenths.{inTenths, tenthsOf}

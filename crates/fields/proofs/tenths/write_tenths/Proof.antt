@@ -1,4 +1,4 @@
--- `fields::tenths::write_tenths` meets its contract: a value that fits is spelled by the writer of its decimals, and none by spaces. Assumes nothing.
+-- `fields::tenths::write_tenths` meets its contract: a value that fits is spelled by the writer of its decimals, and none by spaces.
 use Prim.Native.Nat.{ℕ}
 use mathlib.Core.Path.{_≡_, sym, ap, _∙_}
 use mathlib.Core.Bool.{true, and-false}

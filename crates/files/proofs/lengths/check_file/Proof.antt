@@ -1,7 +1,7 @@
--- `files::lengths::check_file` meets its contract, length by length. Assumes nothing.
+-- `files::lengths::check_file` meets its contract, length by length.
 use borrow.Author.Tests.{eq-eqb, ne-eqb, lt-ltb, le-ltb}
 use Rattle.files.specs.Files.{tooLong, notRecords}
-use Rattle.filing.specs.Outcomes.{firstRefusal}
+use Rattle.basics.specs.Outcomes.{firstRefusal}
 use Rattle.files.proofs.lengths.check_file.Statement.{statement}
 use Rattle.files.proofs.lengths.check_file.Tie as tie
 

@@ -1,4 +1,4 @@
--- `files::lengths::record_in` meets its contract. Assumes nothing.
+-- `files::lengths::record_in` meets its contract.
 use denote.Ref.{now}
 use Rattle.files.proofs.FileLaws.{record-past, record-last, record-whole}
 use Rattle.files.proofs.PieceLaws.{cut-at, offset-there, offset-past}

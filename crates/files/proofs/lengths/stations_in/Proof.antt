@@ -1,4 +1,4 @@
--- `files::lengths::stations_in` meets its contract. Assumes nothing.
+-- `files::lengths::stations_in` meets its contract.
 use Rattle.files.specs.Files.{stations}
 use native.Mathlib.Omega.{arith}
 use borrow.Author.Needs.{needs}

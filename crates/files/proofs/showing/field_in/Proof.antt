@@ -1,4 +1,4 @@
--- `files::showing::field_in` meets its contract. Assumes nothing.
+-- `files::showing::field_in` meets its contract.
 use mathlib.Core.Path.{refl}
 use Prim.Native.Nat.{_-_}
 use native.Mathlib.Nat.{add-sub-cancel-left}

@@ -1,4 +1,4 @@
--- `files::showing::field_place` meets its contract. Assumes nothing.
+-- `files::showing::field_place` meets its contract.
 use Rattle.files.specs.Files.{placesOf}
 use Rattle.files.proofs.PlaceLaws.{not-header}
 use borrow.Author.Needs.{needs}

@@ -1,4 +1,4 @@
--- `files::showing::has_field` meets its contract: fourteen fields in a header, thirty in a station. Assumes nothing.
+-- `files::showing::has_field` meets its contract: fourteen fields in a header, thirty in a station.
 use borrow.Author.Tests.{eq-eqb, ne-eqb}
 use Rattle.files.specs.Files.{placesOf, fieldCount}
 use Rattle.files.proofs.PlaceLaws.{not-header, le-not-lt}

@@ -1,10 +1,10 @@
--- `files::showing::show` meets its contract: nothing, or the piece at the field's place. Assumes nothing.
+-- `files::showing::show` meets its contract: nothing, or the piece at the field's place.
 use denote.Ref.{now}
 use mathlib.Core.Path.{_≡_, ap, _∙_}
 use lib.ListN.{length}
 use Rattle.files.specs.Files.{recordAt, placesOf, fieldAt}
 use Rattle.files.proofs.FileLaws.{record-wide}
-use Rattle.filing.proofs.RefusalLaws.{went-on, stopped}
+use Rattle.basics.proofs.RefusalLaws.{went-on, stopped}
 use Rattle.files.proofs.PlaceLaws.{places-tile, place-inside, piece-there}
 use Rattle.files.proofs.ShowLaws.{shown-there, shown-field, shown-nothing}
 use Rattle.files.proofs.PieceLaws.{front-at, offset-refused, field-stands}

@@ -5,9 +5,9 @@ use mathlib.Core.Bool.{true, false, _||_}
 use mathlib.Core.List.{List, [], _∷_}
 use lib.Dec.{ltb, eqb}
 use borrow.Author.Tests.{lt-ltb, le-ltb, not-true, not-false}
-use Rattle.filing.specs.Outcomes.{Test, firstRefusal}
-use Rattle.filing.specs.declared.Outcome.the-variants as outcome
-use Rattle.filing.proofs.RefusalLaws.{done, went-on, stopped, passes, stops, none-left, asked-on, ended-there}
+use Rattle.basics.specs.Outcomes.{Test, firstRefusal}
+use Rattle.basics.specs.declared.Outcome.the-variants as outcome
+use Rattle.basics.proofs.RefusalLaws.{done, went-on, stopped, passes, stops, none-left, asked-on, ended-there}
 use Rattle.files.specs.Files.{stations, fieldCount}
 use Rattle.files.specs.Calls.{fileTests, numberTest, fieldTest, showOutcome}
 use Rattle.files.proofs.LengthLaws.{length-passed}

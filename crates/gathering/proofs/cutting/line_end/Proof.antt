@@ -1,4 +1,4 @@
--- `gathering::cutting::line_end` meets its contract. Assumes nothing.
+-- `gathering::cutting::line_end` meets its contract.
 use denote.Ref.{now}
 use Rattle.gathering.proofs.CutLaws.{ends-behind, ends-with}
 use borrow.Author.Needs.{needs}

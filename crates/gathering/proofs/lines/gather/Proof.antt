@@ -1,4 +1,4 @@
--- `gathering::lines::gather` meets its contract. Assumes nothing.
+-- `gathering::lines::gather` meets its contract.
 use Rattle.gathering.proofs.HoldLaws.{counted-with}
 use borrow.Author.Needs.{needs}
 use Rattle.gathering.proofs.lines.gather.Statement.{statement}

@@ -1,4 +1,4 @@
--- `gathering::lines::hold` meets its contract: a full buffer stays as it was, and in any other the part is put behind what is held. Assumes nothing.
+-- `gathering::lines::hold` meets its contract: a full buffer stays as it was, and in any other the part is put behind what is held.
 use denote.Ref.{now}
 use native.Mathlib.Omega.{arith}
 use mathlib.Core.Path.{sym}

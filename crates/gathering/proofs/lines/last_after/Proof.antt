@@ -1,4 +1,4 @@
--- `gathering::lines::last_after` meets its contract. Assumes nothing.
+-- `gathering::lines::last_after` meets its contract.
 use mathlib.Core.Path.{_∙_}
 use borrow.Author.Tests.{eq-eqb, ne-eqb}
 use Rattle.gathering.specs.Gathering.{lastAfter}

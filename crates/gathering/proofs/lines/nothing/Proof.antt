@@ -1,4 +1,4 @@
--- `gathering::lines::nothing` meets its contract. Assumes nothing.
+-- `gathering::lines::nothing` meets its contract.
 use mathlib.Core.Path.{refl}
 use Rattle.columns.specs.Texts.{howMany}
 use Rattle.gathering.proofs.lines.nothing.Statement.{statement}

@@ -1,4 +1,4 @@
--- `gathering::records::file_gathered` meets its contract. Assumes nothing.
+-- `gathering::records::file_gathered` meets its contract.
 use denote.Ref.{now}
 use Rattle.gathering.proofs.FilingLaws.{held-filed, long-unsized, long-judged}
 use borrow.Author.Needs.{needs}

@@ -1,4 +1,4 @@
--- `gathering::records::file_held` meets its contract. Assumes nothing.
+-- `gathering::records::file_held` meets its contract.
 use denote.Ref.{now}
 use native.Mathlib.Omega.{arith}
 use mathlib.Core.Path.{sym}

@@ -1,4 +1,4 @@
--- `gathering::records::refusal` meets its contract. Assumes nothing.
+-- `gathering::records::refusal` meets its contract.
 use borrow.Author.Tests.{eq-eqb, ne-eqb}
 use Rattle.gathering.specs.Calls.{longOutcome}
 use Rattle.gathering.proofs.records.refusal.Statement.{statement}

@@ -1,7 +1,7 @@
--- `header::judging::check_header` meets its contract. Assumes nothing.
+-- `header::judging::check_header` meets its contract.
 use denote.Ref.{now}
-use Rattle.filing.specs.declared.Outcome.the-variants as outcome
-use Rattle.filing.proofs.CallLaws.{length-ends, code-ends}
+use Rattle.basics.specs.declared.Outcome.the-variants as outcome
+use Rattle.basics.proofs.CallLaws.{length-ends, code-ends}
 use Rattle.header.specs.Calls.{readHeaderOutcome}
 use Rattle.header.specs.Codes.{headerCode}
 use borrow.Author.Needs.{needs}

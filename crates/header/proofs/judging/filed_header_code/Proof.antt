@@ -1,12 +1,12 @@
--- `header::judging::filed_header_code` meets its contract: the count is judged where the header breaks no rule of its own. Assumes nothing.
+-- `header::judging::filed_header_code` meets its contract: the count is judged where the header breaks no rule of its own.
 use mathlib.Core.Path.{_≡_}
 use mathlib.Core.Bool.{cond}
 use mathlib.Core.List.{[], _∷_}
 use lib.Dec.{eqb}
 use denote.Ref.{now}
 use borrow.Author.Tests.{eq-eqb, ne-eqb}
-use Rattle.filing.specs.Rules.{firstBroken}
-use Rattle.filing.proofs.RuleLaws.{to-next, from-first}
+use Rattle.basics.specs.Rules.{firstBroken}
+use Rattle.basics.proofs.RuleLaws.{to-next, from-first}
 use Rattle.header.specs.Places.{headerFields}
 use Rattle.header.specs.Rules.{headerRules}
 use Rattle.header.specs.Values.{headerOf}

@@ -1,8 +1,8 @@
--- `header::judging::header_code` meets its contract: the second group is judged where the first breaks no rule. Assumes nothing.
+-- `header::judging::header_code` meets its contract: the second group is judged where the first breaks no rule.
 use mathlib.Core.Path.{sym, _∙_}
 use denote.Ref.{now}
 use lib.ListN.{take, drop}
-use Rattle.filing.proofs.RuleLaws.{to-next, from-first}
+use Rattle.basics.proofs.RuleLaws.{to-next, from-first}
 use Rattle.header.specs.Places.{headerFields}
 use Rattle.header.specs.Rules.{headerRules}
 use Rattle.header.specs.Codes.{headerCode}
@@ -19,14 +19,14 @@ returns c =
     let rules = headerRules (headerFields (now (c .before .before .before .args .rec))) in
     from-first 0 (take 7 rules) (drop 7 rules) (c .before .sender-code .ensures) (c .if1 .taken)
 
-filing-code-requires : tie.Need-filing-code-requires
-filing-code-requires c κs = search needs
+closing-code-requires : tie.Need-closing-code-requires
+closing-code-requires c κs = search needs
 
 returns-2 : tie.Need-returns-2
 unfolding headerCode headerRules
 returns-2 c =
     let rules = headerRules (headerFields (now (c .before .before .before .before .args .rec))) in
-    c .filing-code .ensures ∙ sym (to-next 0 (take 7 rules) (drop 7 rules) (c .before .before .sender-code .ensures) (c .before .if1 .left))
+    c .closing-code .ensures ∙ sym (to-next 0 (take 7 rules) (drop 7 rules) (c .before .before .sender-code .ensures) (c .before .if1 .left))
 
 pub header-code-spec : {M : Type 1} → statement M
-header-code-spec = tie.close (tie.spec sender-code-requires returns filing-code-requires returns-2)
+header-code-spec = tie.close (tie.spec sender-code-requires returns closing-code-requires returns-2)

@@ -1,4 +1,4 @@
--- `header::judging::sender_code` meets its contract: each test of the code is a rule of the group. Assumes nothing.
+-- `header::judging::sender_code` meets its contract: each test of the code is a rule of the group.
 use mathlib.Core.Path.{_∙_}
 use Rattle.header.specs.Places.{headerFields}
 use Rattle.header.specs.Rules.{headerRules}

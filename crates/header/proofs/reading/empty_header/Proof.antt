@@ -1,4 +1,4 @@
--- `header::reading::empty_header` meets its contract: it is the empty header, field by field. Assumes nothing.
+-- `header::reading::empty_header` meets its contract: it is the empty header, field by field.
 use mathlib.Core.Path.{refl}
 use Rattle.header.specs.Values.{emptyHeader}
 use Rattle.header.proofs.reading.empty_header.Statement.{statement}

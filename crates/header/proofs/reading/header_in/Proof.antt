@@ -1,4 +1,4 @@
--- `header::reading::header_in` meets its contract: each field is read from its own columns. Assumes nothing.
+-- `header::reading::header_in` meets its contract: each field is read from its own columns.
 use Rattle.columns.proofs.TextLaws.{text-there}
 use denote.Ref.{now}
 use lib.ListN.{length}

@@ -1,15 +1,15 @@
--- `header::reading::read_header` meets its contract: a record that is not refused has 219 bytes. Assumes nothing.
+-- `header::reading::read_header` meets its contract: a record that is not refused has 219 bytes.
 use mathlib.Core.Path.{_≡_, refl, sym, ap, _∙_}
 use mathlib.Core.Bool.{true}
 use mathlib.Core.List.{List}
 use Prim.Native.Nat.{ℕ}
 use lib.ListN.{length}
 use denote.Ref.{now}
-use Rattle.filing.specs.Fields.{recordLength}
-use Rattle.filing.specs.Outcomes.{refusal}
-use Rattle.filing.specs.declared.Outcome.the-variants as outcome
-use Rattle.filing.proofs.RefusalLaws.{done}
-use Rattle.filing.proofs.CallLaws.{accepted, handed}
+use Rattle.basics.specs.Fields.{recordLength}
+use Rattle.basics.specs.Outcomes.{refusal}
+use Rattle.basics.specs.declared.Outcome.the-variants as outcome
+use Rattle.basics.proofs.RefusalLaws.{done}
+use Rattle.basics.proofs.CallLaws.{accepted, handed}
 use Rattle.header.specs.Values.{emptyHeader}
 use Rattle.header.specs.Codes.{headerValue, headerCode}
 use Rattle.header.specs.Calls.{readHeaderOutcome, readHeader}

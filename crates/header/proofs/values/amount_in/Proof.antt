@@ -1,4 +1,4 @@
--- `header::values::amount_in` meets its contract, by the answer of the reader that it calls. Assumes nothing.
+-- `header::values::amount_in` meets its contract, by the answer of the reader that it calls.
 use borrow.Author.Needs.{needs}
 use Rattle.header.proofs.values.amount_in.Statement.{statement}
 use Rattle.header.proofs.values.amount_in.Tie as tie

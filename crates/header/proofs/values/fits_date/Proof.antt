@@ -1,4 +1,4 @@
--- `header::values::fits_date` meets its contract, by its two cases. Assumes nothing.
+-- `header::values::fits_date` meets its contract, by its two cases.
 use Rattle.columns.specs.Dates.{dateFits}
 use borrow.Author.Needs.{needs}
 use Rattle.header.proofs.values.fits_date.Statement.{statement}

@@ -1,4 +1,4 @@
--- `header::values::fits_serial` meets its contract, by its two cases. Assumes nothing.
+-- `header::values::fits_serial` meets its contract, by its two cases.
 use Rattle.fields.specs.Serials.{serialFits}
 use borrow.Author.Needs.{needs}
 use Rattle.header.proofs.values.fits_serial.Statement.{statement}

@@ -1,4 +1,4 @@
--- `header::values::is_letter` meets its contract: a column of another width fails, and one byte is tested itself. Assumes nothing.
+-- `header::values::is_letter` meets its contract: a column of another width fails, and one byte is tested itself.
 use mathlib.Core.Path.{_≡_, refl, sym, _∙_}
 use mathlib.Core.Bool.{Bool, false, and-true, and-false}
 use mathlib.Core.List.{List, [], _∷_}

@@ -1,4 +1,4 @@
--- `header::values::is_serial` meets its contract, by the answer of the reader that it calls. Assumes nothing.
+-- `header::values::is_serial` meets its contract, by the answer of the reader that it calls.
 use Rattle.fields.specs.Serials.{serialGood}
 use borrow.Author.Needs.{needs}
 use Rattle.header.proofs.values.is_serial.Statement.{statement}

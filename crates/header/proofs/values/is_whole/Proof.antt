@@ -1,4 +1,4 @@
--- `header::values::is_whole` meets its contract, by the answer of the reader that it calls. Assumes nothing.
+-- `header::values::is_whole` meets its contract, by the answer of the reader that it calls.
 use borrow.Author.Needs.{needs}
 use Rattle.header.proofs.values.is_whole.Statement.{statement}
 use Rattle.header.proofs.values.is_whole.Tie as tie

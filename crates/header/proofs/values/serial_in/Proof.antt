@@ -1,4 +1,4 @@
--- `header::values::serial_in` meets its contract, by the answer of the reader that it calls. Assumes nothing.
+-- `header::values::serial_in` meets its contract, by the answer of the reader that it calls.
 use Rattle.fields.specs.Serials.{serialOf}
 use borrow.Author.Needs.{needs}
 use Rattle.header.proofs.values.serial_in.Statement.{statement}

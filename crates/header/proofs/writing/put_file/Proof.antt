@@ -1,11 +1,11 @@
--- `header::writing::put_file` meets its contract: each field is written after the one before it. Assumes nothing.
+-- `header::writing::put_file` meets its contract: each field is written after the one before it.
 use mathlib.Core.Path.{_≡_, refl}
 use lib.ListN.{length}
 use Prim.Native.Nat.{ℕ}
 use mathlib.Core.List.{[], _∷_}
 use Rattle.columns.specs.Numbers.{spellWhole}
 use Rattle.header.specs.Spelling.{headerPieces}
-use Rattle.filing.proofs.WriteLaws.{nothing-yet, then-text, then-sized, all-written}
+use Rattle.basics.proofs.WriteLaws.{nothing-yet, then-text, then-sized, all-written}
 use borrow.Author.Needs.{needs}
 use native.Mathlib.Omega.{arith}
 use Rattle.header.proofs.writing.put_file.Statement.{statement}

@@ -1,9 +1,9 @@
--- `header::writing::put_header` meets its contract: each group is written after the one before it. Assumes nothing.
+-- `header::writing::put_header` meets its contract: each group is written after the one before it.
 use mathlib.Core.Path.{_≡_}
 use lib.ListN.{length, take, drop}
 use Rattle.header.proofs.RoundTrip.{date-fits}
 use Rattle.header.specs.Spelling.{headerPieces, spellHeader}
-use Rattle.filing.proofs.WriteLaws.{nothing-yet, then-some, all-written}
+use Rattle.basics.proofs.WriteLaws.{nothing-yet, then-some, all-written}
 use borrow.Author.Needs.{needs}
 use native.Mathlib.Omega.{arith}
 use Rattle.header.proofs.writing.put_header.Statement.{statement}

@@ -1,8 +1,8 @@
--- `header::writing::put_sender` meets its contract: each field is written after the one before it. Assumes nothing.
+-- `header::writing::put_sender` meets its contract: each field is written after the one before it.
 use mathlib.Core.Path.{_≡_, sym}
 use lib.ListN.{length}
 use Rattle.header.specs.Spelling.{headerPieces}
-use Rattle.filing.proofs.WriteLaws.{nothing-yet, then-text, all-written}
+use Rattle.basics.proofs.WriteLaws.{nothing-yet, then-text, all-written}
 use borrow.Author.Needs.{needs}
 use native.Mathlib.Omega.{arith}
 use Rattle.header.proofs.writing.put_sender.Statement.{statement}

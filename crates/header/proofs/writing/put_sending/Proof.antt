@@ -1,4 +1,4 @@
--- `header::writing::put_sending` meets its contract: each field is written after the one before it. Assumes nothing.
+-- `header::writing::put_sending` meets its contract: each field is written after the one before it.
 use mathlib.Core.Path.{_≡_}
 use mathlib.Core.Bool.{true, false≢true}
 use lib.ListN.{length}
@@ -6,7 +6,7 @@ use Prim.Native.Nat.{ℕ}
 use Rattle.columns.specs.Numbers.{spellWhole}
 use Rattle.columns.specs.Dates.{dayFits, spellDay, dateFits}
 use Rattle.header.specs.Spelling.{headerPieces}
-use Rattle.filing.proofs.WriteLaws.{nothing-yet, then-fitting, then-text, then-sized, all-written}
+use Rattle.basics.proofs.WriteLaws.{nothing-yet, then-fitting, then-text, then-sized, all-written}
 use Rattle.columns.specs.declared.dates.Day.{Day}
 use Rattle.columns.specs.declared.dates.Day.the-variants as day
 use borrow.Author.Needs.{needs}

@@ -1,4 +1,4 @@
--- `header::writing::put_serial` meets its contract, by its two cases. Assumes nothing.
+-- `header::writing::put_serial` meets its contract, by its two cases.
 use mathlib.Core.Path.{ap, _∙_}
 use Prim.Native.Nat.{ℕ}
 use lib.ListN.{replicate}

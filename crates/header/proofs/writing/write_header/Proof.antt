@@ -1,11 +1,11 @@
--- `header::writing::write_header` meets its contract, by the three ways a call ends. Assumes nothing.
+-- `header::writing::write_header` meets its contract, by the three ways a call ends.
 use mathlib.Core.Path.{refl}
-use Rattle.filing.specs.Outcomes.{refusal}
-use Rattle.filing.specs.declared.Outcome.the-variants as outcome
+use Rattle.basics.specs.Outcomes.{refusal}
+use Rattle.basics.specs.declared.Outcome.the-variants as outcome
 use Rattle.header.specs.Spelling.{spellHeader}
 use Rattle.header.specs.Codes.{typedHeaderCode}
 use Rattle.header.specs.Calls.{writeHeaderOutcome, writtenHeader}
-use Rattle.filing.proofs.CallLaws.{wrong-length, rule-broken, call-done}
+use Rattle.basics.proofs.CallLaws.{wrong-length, rule-broken, call-done}
 use borrow.Author.Needs.{needs}
 use Rattle.header.proofs.writing.write_header.Statement.{statement}
 use Rattle.header.proofs.writing.write_header.Tie as tie

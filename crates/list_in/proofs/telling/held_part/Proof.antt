@@ -1,4 +1,4 @@
--- `list_in::telling::held_part` is safe. Assumes nothing.
+-- `list_in::telling::held_part` is safe.
 use denote.Ref.{now}
 use mathlib.Core.Path.{sym}
 use native.Mathlib.Omega.{arith}

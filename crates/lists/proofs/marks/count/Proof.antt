@@ -1,4 +1,4 @@
--- `lists::marks::count` meets its contract: what was counted, and what is still to come, are all. Assumes nothing.
+-- `lists::marks::count` meets its contract: what was counted, and what is still to come, are all.
 use Prim.Native.Nat.{_+_, _-_, _≤_}
 use mathlib.Core.Path.{_≡_}
 use lib.Dec.{eqb}

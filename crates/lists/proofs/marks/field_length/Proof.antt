@@ -1,4 +1,4 @@
--- `lists::marks::field_length` meets its contract: the bytes that were passed are no marks. Assumes nothing.
+-- `lists::marks::field_length` meets its contract: the bytes that were passed are no marks.
 use Prim.Native.Nat.{_-_}
 use mathlib.Core.Path.{refl, sym, _∙_}
 use lib.ListN.{length}

@@ -1,4 +1,4 @@
--- `lists::marks::is_mark` meets its contract. Assumes nothing.
+-- `lists::marks::is_mark` meets its contract.
 use borrow.Author.Tests.{eq-eqb, ne-eqb}
 use Rattle.lists.proofs.marks.is_mark.Statement.{statement}
 use Rattle.lists.proofs.marks.is_mark.Tie as tie

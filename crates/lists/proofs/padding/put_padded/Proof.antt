@@ -1,4 +1,4 @@
--- `lists::padding::put_padded` meets its contract: the field stands where it is put into blank columns. Assumes nothing.
+-- `lists::padding::put_padded` meets its contract: the field stands where it is put into blank columns.
 use denote.Ref.{now}
 use mathlib.Core.Path.{ap, _∙_}
 use Prim.Native.Nat.{_+_, _≤_}

@@ -1,4 +1,4 @@
--- `lists::padding::put_text` meets its contract. Assumes nothing.
+-- `lists::padding::put_text` meets its contract.
 use denote.Ref.{now}
 use Rattle.lists.proofs.FillLaws.{put-back}
 use borrow.Author.Needs.{needs}

@@ -1,4 +1,4 @@
--- `lists::padding::side_after` meets its contract. Assumes nothing.
+-- `lists::padding::side_after` meets its contract.
 use mathlib.Core.Path.{refl}
 use borrow.Author.Needs.{needs}
 use Rattle.lists.proofs.padding.side_after.Statement.{statement}

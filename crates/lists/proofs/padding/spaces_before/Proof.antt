@@ -1,4 +1,4 @@
--- `lists::padding::spaces_before` meets its contract. Assumes nothing.
+-- `lists::padding::spaces_before` meets its contract.
 use mathlib.Core.Path.{sym, ap}
 use Rattle.lists.specs.Fields.{spacesBefore}
 use Rattle.lists.specs.declared.Side.{Side}

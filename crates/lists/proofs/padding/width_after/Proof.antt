@@ -1,4 +1,4 @@
--- `lists::padding::width_after` meets its contract: the small table is that of the places. Assumes nothing.
+-- `lists::padding::width_after` meets its contract: the small table is that of the places.
 use mathlib.Core.Path.{refl}
 use native.Mathlib.Omega.{arith}
 use mir.Syntax.{w64}

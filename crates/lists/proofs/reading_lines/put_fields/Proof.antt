@@ -1,4 +1,4 @@
--- `lists::reading_lines::put_fields` meets its contract: so many fields stand, and the others are still to come. Assumes nothing.
+-- `lists::reading_lines::put_fields` meets its contract: so many fields stand, and the others are still to come.
 use denote.Ref.{now}
 use mathlib.Core.Path.{_≡_, refl, sym, _∙_}
 use mathlib.Core.Bool.{false≢true}

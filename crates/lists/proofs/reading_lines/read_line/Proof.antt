@@ -1,4 +1,4 @@
--- `lists::reading_lines::read_line` meets its contract: it is refused for the first reason, or read as its record is. Assumes nothing.
+-- `lists::reading_lines::read_line` meets its contract: it is refused for the first reason, or read as its record is.
 use denote.Ref.{now}
 use mathlib.Core.Path.{sym, _∙_}
 use borrow.Author.Tests.{not-true, not-false}

@@ -1,4 +1,4 @@
--- `lists::records::line_to_record` meets its contract: it is refused for the first reason, or its station is filed. Assumes nothing.
+-- `lists::records::line_to_record` meets its contract: it is refused for the first reason, or its station is filed.
 use denote.Ref.{now}
 use mathlib.Core.Path.{sym, _∙_}
 use Rattle.lists.proofs.RecordLaws.{not-the-length, line-refused, line-filed}

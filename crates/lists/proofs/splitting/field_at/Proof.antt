@@ -1,4 +1,4 @@
--- `lists::splitting::field_at` meets its contract. Assumes nothing.
+-- `lists::splitting::field_at` meets its contract.
 use mathlib.Core.Path.{sym}
 use lib.Seq.{length-take-le}
 use Rattle.columns.proofs.TextLaws.{from-on}

@@ -1,4 +1,4 @@
--- `lists::splitting::is_line` meets its contract. Assumes nothing.
+-- `lists::splitting::is_line` meets its contract.
 use borrow.Author.Tests.{eq-eqb, ne-eqb}
 use Rattle.lists.specs.Lines.{isLine}
 use borrow.Author.Needs.{needs}

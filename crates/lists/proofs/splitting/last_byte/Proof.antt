@@ -1,4 +1,4 @@
--- `lists::splitting::last_byte` meets its contract. Assumes nothing.
+-- `lists::splitting::last_byte` meets its contract.
 use denote.Ref.{now}
 use Rattle.lists.proofs.FillLaws.{no-last}
 use borrow.Author.Needs.{needs}

@@ -1,4 +1,4 @@
--- `lists::splitting::past` meets its contract: behind the last byte nothing stands. Assumes nothing.
+-- `lists::splitting::past` meets its contract: behind the last byte nothing stands.
 use mathlib.Core.Path.{sym, _∙_}
 use native.Mathlib.Omega.{arith}
 use lib.ListN.{drop-of-length-le}

@@ -1,4 +1,4 @@
--- `lists::trimming::trimmed_part` meets its contract. Assumes nothing.
+-- `lists::trimming::trimmed_part` meets its contract.
 use mathlib.Core.Path.{sym, ap, _∙_}
 use lib.Seq.{length-take-le}
 use Rattle.columns.specs.Texts.{trimmed}

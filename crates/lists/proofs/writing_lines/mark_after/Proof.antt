@@ -1,4 +1,4 @@
--- `lists::writing_lines::mark_after` meets its contract. Assumes nothing.
+-- `lists::writing_lines::mark_after` meets its contract.
 use borrow.Author.Tests.{eq-eqb, ne-eqb}
 use Rattle.lists.proofs.writing_lines.mark_after.Statement.{statement}
 use Rattle.lists.proofs.writing_lines.mark_after.Tie as tie

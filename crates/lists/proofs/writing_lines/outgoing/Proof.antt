@@ -1,4 +1,4 @@
--- `lists::writing_lines::outgoing` meets its contract. Assumes nothing.
+-- `lists::writing_lines::outgoing` meets its contract.
 use denote.Ref.{now}
 use mathlib.Core.Path.{sym, ap, _∙_}
 use Rattle.lists.specs.Fields.{trimmedField}

@@ -1,4 +1,4 @@
--- `lists::writing_lines::put_first` meets its contract. Assumes nothing.
+-- `lists::writing_lines::put_first` meets its contract.
 use denote.Ref.{now}
 use mathlib.Core.Path.{_≡_, sym, _∙_}
 use lib.ListN.{length, take}

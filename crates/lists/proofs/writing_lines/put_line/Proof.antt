@@ -1,4 +1,4 @@
--- `lists::writing_lines::put_line` meets its contract: so many fields stand, and the others are still to come. Assumes nothing.
+-- `lists::writing_lines::put_line` meets its contract: so many fields stand, and the others are still to come.
 use denote.Ref.{now}
 use mathlib.Core.Path.{_≡_, refl}
 use Prim.Native.Nat.{_+_, _-_, _≤_}

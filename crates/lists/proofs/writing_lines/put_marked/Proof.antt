@@ -1,4 +1,4 @@
--- `lists::writing_lines::put_marked` meets its contract. Assumes nothing.
+-- `lists::writing_lines::put_marked` meets its contract.
 use denote.Ref.{now}
 use Rattle.lists.proofs.OutLaws.{marked-behind}
 use borrow.Author.Needs.{needs}

@@ -1,4 +1,4 @@
--- `lists::writing_lines::spell_line` meets its contract: the station's record, put into a line. Assumes nothing.
+-- `lists::writing_lines::spell_line` meets its contract: the station's record, put into a line.
 use mathlib.Core.Path.{refl, ap, _∙_}
 use mathlib.Core.List.{List}
 use Prim.Native.Nat.{ℕ}

@@ -1,4 +1,4 @@
--- `lists::writing_lines::write_accepted` meets its contract: there is no room, or the line is copied. Assumes nothing.
+-- `lists::writing_lines::write_accepted` meets its contract: there is no room, or the line is copied.
 use denote.Ref.{now}
 use Rattle.lists.proofs.CallLaws.{no-room, line-written}
 use borrow.Author.Needs.{needs}

@@ -1,4 +1,4 @@
--- `lists::writing_lines::write_line` meets its contract: it is refused for a broken rule, or goes on. Assumes nothing.
+-- `lists::writing_lines::write_line` meets its contract: it is refused for a broken rule, or goes on.
 use denote.Ref.{now}
 use mathlib.Core.Path.{sym, _∙_}
 use Rattle.lists.proofs.CallLaws.{rule-broken}

@@ -1,7 +1,7 @@
--- `reading::judging::check_station` meets its contract. Assumes nothing.
+-- `reading::judging::check_station` meets its contract.
 use denote.Ref.{now}
-use Rattle.filing.specs.declared.Outcome.the-variants as outcome
-use Rattle.filing.proofs.CallLaws.{length-ends, code-ends}
+use Rattle.basics.specs.declared.Outcome.the-variants as outcome
+use Rattle.basics.proofs.CallLaws.{length-ends, code-ends}
 use Rattle.station.specs.Calls.{readOutcome}
 use Rattle.station.specs.Codes.{stationCode}
 use borrow.Author.Needs.{needs}

@@ -1,4 +1,4 @@
--- `reading::judging::is_day` meets its contract, answer by answer. Assumes nothing.
+-- `reading::judging::is_day` meets its contract, answer by answer.
 use mathlib.Core.Path.{_≡_, sym, ap, _∙_}
 use mathlib.Core.Bool.{Bool}
 use Rattle.columns.specs.Dates.{dayPasses, dateOf, dayGood}

@@ -1,4 +1,4 @@
--- `reading::judging::is_filled` meets its contract. Assumes nothing.
+-- `reading::judging::is_filled` meets its contract.
 use mathlib.Core.Path.{ap}
 use mathlib.Core.Bool.{not}
 use borrow.Author.Needs.{needs}

@@ -1,4 +1,4 @@
--- `reading::judging::is_position` meets its contract, answer by answer. Assumes nothing.
+-- `reading::judging::is_position` meets its contract, answer by answer.
 use mathlib.Core.Path.{_≡_, refl, sym, ap, _∙_}
 use mathlib.Core.Bool.{Bool, true, false, cond}
 use mathlib.Core.List.{List}

@@ -1,4 +1,4 @@
--- `reading::judging::last_between` meets its contract: where a field keeps its rule, filled is not blank. Assumes nothing.
+-- `reading::judging::last_between` meets its contract: where a field keeps its rule, filled is not blank.
 use mathlib.Core.Path.{_≡_, _∙_}
 use mathlib.Core.Bool.{true, false, Bool·not-not}
 use Prim.Native.Nat.{ℕ, _-_}
@@ -7,9 +7,9 @@ use denote.Ref.{now}
 use Rattle.columns.specs.Texts.{blank}
 use Rattle.fields.specs.Tenths.{anyNumber}
 use Rattle.fields.specs.Table.{meantAt}
-use Rattle.filing.proofs.RuleLaws.{rule}
+use Rattle.basics.proofs.RuleLaws.{rule}
 use Rattle.station.specs.Places.{fieldsOf}
-use Rattle.station.specs.Groups.{channelFields, siteFields, emissionFields, antennaFields, filingFields, lastBetween}
+use Rattle.station.specs.Groups.{channelFields, siteFields, emissionFields, antennaFields, coordinationFields, lastBetween}
 use Rattle.station.specs.Rules.{fieldRules}
 use Rattle.station.specs.Values.{stationOf}
 use Rattle.station.specs.Codes.{valueOf}
@@ -156,7 +156,7 @@ first-broken-requires : tie.Need-first-broken-requires
 first-broken-requires c κs = search needs
 
 returns : tie.Need-returns
-unfolding lastBetween valueOf stationOf fieldsOf fieldRules channelFields siteFields emissionFields antennaFields filingFields
+unfolding lastBetween valueOf stationOf fieldsOf fieldRules channelFields siteFields emissionFields antennaFields coordinationFields
 returns c =
     let n5 = c .before .before in
     let n4 = n5 .before .before .before in

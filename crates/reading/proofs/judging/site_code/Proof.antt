@@ -1,4 +1,4 @@
--- `reading::judging::site_code` meets its contract: each test of the code is a rule of the group. Assumes nothing.
+-- `reading::judging::site_code` meets its contract: each test of the code is a rule of the group.
 use mathlib.Core.Path.{_≡_, _∙_}
 use denote.Ref.{now}
 use Rattle.station.specs.Places.{fieldsOf}

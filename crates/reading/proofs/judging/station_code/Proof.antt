@@ -1,11 +1,11 @@
--- `reading::judging::station_code` meets its contract: the rules between fields are asked where the thirty hold. Assumes nothing.
+-- `reading::judging::station_code` meets its contract: the rules between fields are asked where the thirty hold.
 use mathlib.Core.Path.{_≡_, sym, _∙_}
 use mathlib.Core.List.{_++_}
 use denote.Ref.{now}
-use Rattle.filing.specs.Rules.{All, firstBroken}
-use Rattle.filing.proofs.RuleLaws.{all-hold, to-next, from-first}
+use Rattle.basics.specs.Rules.{All, firstBroken}
+use Rattle.basics.proofs.RuleLaws.{all-hold, to-next, from-first}
 use Rattle.station.specs.Places.{fieldsOf}
-use Rattle.station.specs.Groups.{channelFields, siteFields, emissionFields, antennaFields, filingFields, firstBetween, lastBetween}
+use Rattle.station.specs.Groups.{channelFields, siteFields, emissionFields, antennaFields, coordinationFields, firstBetween, lastBetween}
 use Rattle.station.specs.Rules.{fieldRules}
 use Rattle.station.specs.Between.{betweenRules}
 use Rattle.station.specs.Codes.{valueOf, stationCode}
@@ -19,13 +19,13 @@ hold c = all-hold 0 (fieldRules (fieldsOf (now (c .before .before .before .args 
 
 -- and then the rules between fields are asked
 past-1 : (c : tie.Else1) → let r = now (c .before .before .before .args .rec) in stationCode r ≡ firstBroken 31 (firstBetween (valueOf r) ++ lastBetween (valueOf r))
-unfolding stationCode betweenRules firstBetween lastBetween fieldRules channelFields siteFields emissionFields antennaFields filingFields
+unfolding stationCode betweenRules firstBetween lastBetween fieldRules channelFields siteFields emissionFields antennaFields coordinationFields
 past-1 c =
     let r = now (c .before .before .before .args .rec) in
     to-next 0 (fieldRules (fieldsOf r)) (betweenRules (valueOf r)) (c .before .field-code .ensures) (c .if1 .left)
 
 past-2 : (c : tie.Else2) → let r = now (c .before .before .before .before .before .args .rec) in stationCode r ≡ firstBroken 35 (lastBetween (valueOf r))
-unfolding stationCode betweenRules firstBetween lastBetween fieldRules channelFields siteFields emissionFields antennaFields filingFields
+unfolding stationCode betweenRules firstBetween lastBetween fieldRules channelFields siteFields emissionFields antennaFields coordinationFields
 past-2 c =
     let r = now (c .before .before .before .before .before .args .rec) in
     past-1 (c .before .before) ∙ to-next 30 (firstBetween (valueOf r)) (lastBetween (valueOf r)) (c .before .first-between .ensures) (c .if2 .left)

@@ -1,4 +1,4 @@
--- `reading::typed::antenna_in` meets its contract: each field is read from its own columns. Assumes nothing.
+-- `reading::typed::antenna_in` meets its contract: each field is read from its own columns.
 use Rattle.columns.proofs.TextLaws.{text-there}
 use native.Mathlib.Omega.{arith}
 use denote.Ref.{now}

@@ -1,4 +1,4 @@
--- `reading::typed::channel_in` meets its contract: each field is read from its own columns. Assumes nothing.
+-- `reading::typed::channel_in` meets its contract: each field is read from its own columns.
 use Rattle.columns.proofs.TextLaws.{text-there}
 use lib.ListN.{length}
 use mathlib.Core.Path.{_≡_, sym, _∙_}

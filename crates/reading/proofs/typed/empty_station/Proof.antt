@@ -1,4 +1,4 @@
--- `reading::typed::empty_station` meets its contract: it is the empty station, field by field. Assumes nothing.
+-- `reading::typed::empty_station` meets its contract: it is the empty station, field by field.
 use mathlib.Core.Path.{refl}
 use Rattle.station.specs.Values.{emptyStation}
 use Rattle.reading.proofs.typed.empty_station.Statement.{statement}

@@ -1,4 +1,4 @@
--- `reading::typed::position_in` meets its contract: where the rule holds, a position is what was read. Assumes nothing.
+-- `reading::typed::position_in` meets its contract: where the rule holds, a position is what was read.
 use mathlib.Core.Path.{_≡_, sym, ap, _∙_}
 use mathlib.Core.Bool.{true}
 use mathlib.Core.List.{List}

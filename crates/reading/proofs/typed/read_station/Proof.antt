@@ -1,17 +1,17 @@
--- `reading::typed::read_station` meets its contract: a record that is not refused has 219 bytes and breaks no rule. Assumes nothing.
+-- `reading::typed::read_station` meets its contract: a record that is not refused has 219 bytes and breaks no rule.
 use mathlib.Core.Path.{_≡_, refl, sym, ap, _∙_}
 use mathlib.Core.Bool.{true}
 use mathlib.Core.List.{List, _++_}
 use Prim.Native.Nat.{ℕ}
 use lib.ListN.{length}
 use denote.Ref.{now}
-use Rattle.filing.specs.Fields.{recordLength}
-use Rattle.filing.specs.Outcomes.{refusal}
-use Rattle.filing.specs.Rules.{All}
-use Rattle.filing.specs.declared.Outcome.the-variants as outcome
-use Rattle.filing.proofs.RuleLaws.{all-hold, all-front}
-use Rattle.filing.proofs.RefusalLaws.{done}
-use Rattle.filing.proofs.CallLaws.{accepted, handed}
+use Rattle.basics.specs.Fields.{recordLength}
+use Rattle.basics.specs.Outcomes.{refusal}
+use Rattle.basics.specs.Rules.{All}
+use Rattle.basics.specs.declared.Outcome.the-variants as outcome
+use Rattle.basics.proofs.RuleLaws.{all-hold, all-front}
+use Rattle.basics.proofs.RefusalLaws.{done}
+use Rattle.basics.proofs.CallLaws.{accepted, handed}
 use Rattle.station.specs.Places.{fieldsOf}
 use Rattle.station.specs.Rules.{fieldRules}
 use Rattle.station.specs.Between.{betweenRules}

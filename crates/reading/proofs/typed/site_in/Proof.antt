@@ -1,11 +1,11 @@
--- `reading::typed::site_in` meets its contract: each field is read from its own columns, and rule 11 lets 4C be read. Assumes nothing.
+-- `reading::typed::site_in` meets its contract: each field is read from its own columns, and rule 11 lets 4C be read.
 use Rattle.columns.proofs.TextLaws.{text-there}
 use native.Mathlib.Omega.{arith}
 use lib.ListN.{length}
 use mathlib.Core.Path.{_≡_, _∙_}
 use denote.Ref.{now}
-use Rattle.filing.proofs.RuleLaws.{rule}
-use Rattle.station.specs.Groups.{channelFields, siteFields, emissionFields, antennaFields, filingFields}
+use Rattle.basics.proofs.RuleLaws.{rule}
+use Rattle.station.specs.Groups.{channelFields, siteFields, emissionFields, antennaFields, coordinationFields}
 use Rattle.station.specs.Rules.{fieldRules}
 use Rattle.station.specs.Places.{fieldsOf}
 use Rattle.station.specs.Values.{stationOf}
@@ -60,7 +60,7 @@ part-position-in-end : tie.Need-part-position-in-end
 part-position-in-end c = search needs
 
 position-in-requires : tie.Need-position-in-requires
-unfolding fieldsOf fieldRules channelFields siteFields emissionFields antennaFields filingFields
+unfolding fieldsOf fieldRules channelFields siteFields emissionFields antennaFields coordinationFields
 position-in-requires c κs =
     let s = c .before .before .before .before .before .before .before .before in
     rule (fieldRules (fieldsOf (now (s .args .rec)))) (s .pre .1) 11

@@ -1,4 +1,4 @@
--- `reading::typed::station_in` meets its contract, group by group. Assumes nothing.
+-- `reading::typed::station_in` meets its contract, group by group.
 use borrow.Author.Needs.{needs}
 use Rattle.reading.proofs.typed.station_in.Statement.{statement}
 use Rattle.reading.proofs.typed.station_in.Tie as tie
@@ -15,8 +15,8 @@ emission-in-requires c κs = search needs
 antenna-in-requires : tie.Need-antenna-in-requires
 antenna-in-requires c κs = search needs
 
-filing-in-requires : tie.Need-filing-in-requires
-filing-in-requires c κs = search needs
+coordination-in-requires : tie.Need-coordination-in-requires
+coordination-in-requires c κs = search needs
 
 returns : tie.Need-returns
 returns c =
@@ -29,7 +29,7 @@ returns c =
       site = at-site .site-in .ensures k;
       emission = at-emission .emission-in .ensures k;
       antenna = at-antenna .antenna-in .ensures k;
-      filing = c .filing-in .ensures k;
+      coordination = c .coordination-in .ensures k;
     }
 
 pub station-in-spec : {M : Type 1} → statement M
@@ -40,5 +40,5 @@ station-in-spec =
     site-in-requires
     emission-in-requires
     antenna-in-requires
-    filing-in-requires
+    coordination-in-requires
     returns)

@@ -2,7 +2,7 @@
 use mathlib.Core.Path.{sym, ap, _∙_}
 use denote.Ref.{now}
 use borrow.Author.Tests.{not-true, not-false}
-use Rattle.filing.proofs.RefusalLaws.{if-done, if-refused}
+use Rattle.basics.proofs.RefusalLaws.{if-done, if-refused}
 use Rattle.rewriting.proofs.ChangeLaws.{first-ends, second-ends}
 use borrow.Author.Needs.{needs}
 use Rattle.rewriting.proofs.changing.settle_record.Statement.{statement}

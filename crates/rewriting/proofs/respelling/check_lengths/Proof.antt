@@ -3,7 +3,7 @@ use mathlib.Core.Path.{_≡_, sym, _∙_}
 use mathlib.Core.List.{[], _∷_}
 use denote.Ref.{now}
 use borrow.Author.Tests.{eq-eqb, ne-eqb}
-use Rattle.filing.specs.Outcomes.{firstRefusal}
+use Rattle.basics.specs.Outcomes.{firstRefusal}
 use borrow.Author.Needs.{needs}
 use Rattle.rewriting.proofs.respelling.check_lengths.Statement.{statement}
 use Rattle.rewriting.proofs.respelling.check_lengths.Tie as tie

@@ -2,7 +2,7 @@
 use denote.Ref.{now}
 use mathlib.Core.Path.{sym, _∙_}
 use borrow.Author.Tests.{not-true, not-false}
-use Rattle.filing.proofs.RefusalLaws.{went-on}
+use Rattle.basics.proofs.RefusalLaws.{went-on}
 use Rattle.header.specs.Values.{emptyHeader}
 use Rattle.header.specs.Spelling.{spellHeader}
 use Rattle.header.specs.Codes.{headerValue, headerCode, typedHeaderCode}

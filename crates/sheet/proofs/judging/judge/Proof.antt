@@ -1,10 +1,10 @@
--- `sheet::judging::judge` meets its contract: refused, or the whole sheet. Assumes nothing.
+-- `sheet::judging::judge` meets its contract: refused, or the whole sheet.
 use denote.Ref.{now}
 use mathlib.Core.Path.{_≡_, sym, ap, _∙_}
 use mathlib.Core.Bool.{true}
 use Prim.Native.Nat.{ℕ}
 use borrow.Author.Tests.{not-true}
-use Rattle.filing.proofs.RefusalLaws.{done, went-on}
+use Rattle.basics.proofs.RefusalLaws.{done, went-on}
 use Rattle.sheet.specs.Sheets.{judgedSheet}
 use Rattle.sheet.specs.Calls.{judgeOutcome}
 use Rattle.sheet.proofs.CallLaws.{judge-sized-up, judge-refused, judge-done, sized-at}

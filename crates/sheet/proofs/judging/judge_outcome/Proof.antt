@@ -1,13 +1,13 @@
--- `sheet::judging::judge_outcome` meets its contract: the file's length, then the sheet's. Assumes nothing.
+-- `sheet::judging::judge_outcome` meets its contract: the file's length, then the sheet's.
 use denote.Ref.{now}
 use mathlib.Core.Path.{_≡_, sym, _∙_}
 use mathlib.Core.Bool.{true, false, not}
 use mathlib.Core.List.{[], _∷_}
 use borrow.Author.Tests.{eq-eqb, ne-eqb}
 use Rattle.columns.specs.Texts.{sized}
-use Rattle.filing.specs.Outcomes.{when, firstRefusal}
-use Rattle.filing.specs.declared.Outcome.the-variants as outcome
-use Rattle.filing.proofs.RefusalLaws.{done, went-on, stopped, passes, stops, none-left, asked-on, ended-there}
+use Rattle.basics.specs.Outcomes.{when, firstRefusal}
+use Rattle.basics.specs.declared.Outcome.the-variants as outcome
+use Rattle.basics.proofs.RefusalLaws.{done, went-on, stopped, passes, stops, none-left, asked-on, ended-there}
 use Rattle.files.specs.Files.{stations}
 use Rattle.files.specs.Calls.{fileTests}
 use Rattle.files.proofs.LengthLaws.{length-passed, whole-records}

@@ -1,4 +1,4 @@
--- `sheet::judging::judge_sized` meets its contract: rows, then trailer. Assumes nothing.
+-- `sheet::judging::judge_sized` meets its contract: rows, then trailer.
 use denote.Ref.{now}
 use mathlib.Core.Path.{_≡_, ap, _∙_}
 use mathlib.Core.List.{List}

@@ -1,4 +1,4 @@
--- `sheet::judging::put_rows` meets its contract: so many rows stand, and the rest is as it was. Assumes nothing.
+-- `sheet::judging::put_rows` meets its contract: so many rows stand, and the rest is as it was.
 use denote.Ref.{now}
 use mathlib.Core.Path.{_≡_, _∙_}
 use mathlib.Core.List.{_++_}

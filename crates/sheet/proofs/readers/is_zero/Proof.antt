@@ -1,4 +1,4 @@
--- `sheet::readers::is_zero` meets its contract: the bytes that were passed are 0. Assumes nothing.
+-- `sheet::readers::is_zero` meets its contract: the bytes that were passed are 0.
 use Prim.Native.Nat.{_-_}
 use mathlib.Core.Path.{_≡_, refl, sym, _∙_}
 use lib.ListN.{length, drop}

@@ -1,4 +1,4 @@
--- `sheet::replacing::mend_rows` meets its contract: so many rows are as they should be, and so many were written. Assumes nothing.
+-- `sheet::replacing::mend_rows` meets its contract: so many rows are as they should be, and so many were written.
 use denote.Ref.{now}
 use mathlib.Core.Bool.{true, false}
 use mathlib.Core.Path.{_≡_, _∙_}

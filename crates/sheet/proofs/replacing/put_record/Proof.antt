@@ -1,4 +1,4 @@
--- `sheet::replacing::put_record` meets its contract: 219 bytes copied into their own place. Assumes nothing.
+-- `sheet::replacing::put_record` meets its contract: 219 bytes copied into their own place.
 use denote.Ref.{now}
 use mathlib.Core.Path.{_≡_, _∙_}
 use Prim.Native.Nat.{_+_, _-_, _*_}

@@ -1,11 +1,11 @@
--- `sheet::replacing::replace` meets its contract: refused, a header, or a station. Assumes nothing.
+-- `sheet::replacing::replace` meets its contract: refused, a header, or a station.
 use denote.Ref.{now}
 use mathlib.Core.Path.{_≡_, sym, ap, _∙_}
 use mathlib.Core.Bool.{true}
 use Prim.Native.Nat.{ℕ}
 use borrow.Author.Tests.{not-true}
 use Rattle.files.specs.Files.{withRecord, stations}
-use Rattle.filing.proofs.RefusalLaws.{done, went-on}
+use Rattle.basics.proofs.RefusalLaws.{done, went-on}
 use Rattle.files.proofs.LengthLaws.{positive}
 use Rattle.sheet.specs.Replacing.{mendedSheet, rowsWritten}
 use Rattle.sheet.proofs.RowsMended.{header-none}

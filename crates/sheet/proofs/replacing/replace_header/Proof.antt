@@ -1,4 +1,4 @@
--- `sheet::replacing::replace_header` meets its contract: the record, then the trailer. Assumes nothing.
+-- `sheet::replacing::replace_header` meets its contract: the record, then the trailer.
 use mathlib.Core.Path.{ap, _∙_}
 use denote.Ref.{now}
 use lib.ListN.{take}

@@ -1,13 +1,13 @@
--- `sheet::replacing::replace_outcome` meets its contract: what judging asks, then trailer, number and record. Assumes nothing.
+-- `sheet::replacing::replace_outcome` meets its contract: what judging asks, then trailer, number and record.
 use denote.Ref.{now}
 use mathlib.Core.Path.{_≡_, sym, ap, _∙_}
 use mathlib.Core.Bool.{true, false, not}
 use Prim.Native.Nat.{ℕ, _+_, _*_}
 use lib.Dec.{ltb}
 use borrow.Author.Tests.{eq-eqb, ne-eqb, lt-ltb, le-ltb}
-use Rattle.filing.specs.Outcomes.{firstRefusal}
-use Rattle.filing.specs.declared.Outcome.the-variants as outcome
-use Rattle.filing.proofs.RefusalLaws.{done, went-on, stopped, passes, stops, none-left, ended-there}
+use Rattle.basics.specs.Outcomes.{firstRefusal}
+use Rattle.basics.specs.declared.Outcome.the-variants as outcome
+use Rattle.basics.proofs.RefusalLaws.{done, went-on, stopped, passes, stops, none-left, ended-there}
 use Rattle.files.specs.Files.{stations}
 use Rattle.sheet.specs.Calls.{judgeTests, judgeOutcome, replaceOutcome}
 use Rattle.sheet.proofs.CallLaws.{judge-sized-up, further, goes-further}

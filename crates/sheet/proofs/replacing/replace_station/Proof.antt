@@ -1,4 +1,4 @@
--- `sheet::replacing::replace_station` meets its contract: the old reference is kept, the record put in, the rows mended, the trailer written. Assumes nothing.
+-- `sheet::replacing::replace_station` meets its contract: the old reference is kept, the record put in, the rows mended, the trailer written.
 use denote.Ref.{now}
 use mathlib.Core.Path.{_≡_, sym, ap, _∙_}
 use Prim.Native.Nat.{_≤_}

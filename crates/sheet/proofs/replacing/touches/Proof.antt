@@ -1,4 +1,4 @@
--- `sheet::replacing::touches` meets its contract: the number, the old reference, the new one. Assumes nothing.
+-- `sheet::replacing::touches` meets its contract: the number, the old reference, the new one.
 use denote.Ref.{now}
 use mathlib.Core.Bool.{true, false}
 use mathlib.Core.Path.{_≡_}

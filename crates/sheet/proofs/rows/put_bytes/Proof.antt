@@ -1,4 +1,4 @@
--- `sheet::rows::put_bytes` meets its contract: a row's bytes, copied. Assumes nothing.
+-- `sheet::rows::put_bytes` meets its contract: a row's bytes, copied.
 use denote.Ref.{now}
 use mathlib.Core.List.{_∷_, []}
 use mathlib.Core.Path.{_∙_}

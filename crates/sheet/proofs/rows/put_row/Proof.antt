@@ -1,4 +1,4 @@
--- `sheet::rows::put_row` meets its contract: the row stands in its own bytes, and the others are kept. Assumes nothing.
+-- `sheet::rows::put_row` meets its contract: the row stands in its own bytes, and the others are kept.
 use denote.Ref.{now}
 use mathlib.Core.Path.{_≡_}
 use Prim.Native.Nat.{_+_, _*_, _-_}

@@ -1,4 +1,4 @@
--- `sheet::trailers::bad_rows` meets its contract, row by row. Assumes nothing.
+-- `sheet::trailers::bad_rows` meets its contract, row by row.
 use denote.Ref.{now}
 use mathlib.Core.Logic.{⊎-elim}
 use mathlib.Core.Path.{_≡_, _∙_}

@@ -1,4 +1,4 @@
--- `sheet::trailers::fits_trailer` meets its contract: distance and width, then the mark. Assumes nothing.
+-- `sheet::trailers::fits_trailer` meets its contract: distance and width, then the mark.
 use denote.Ref.{now}
 use mathlib.Core.Path.{_≡_, sym, ap, _∙_}
 use mathlib.Core.Bool.{true, false}

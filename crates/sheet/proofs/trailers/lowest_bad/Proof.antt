@@ -1,4 +1,4 @@
--- `sheet::trailers::lowest_bad` meets its contract: none of the rows before was found bad. Assumes nothing.
+-- `sheet::trailers::lowest_bad` meets its contract: none of the rows before was found bad.
 use denote.Ref.{now}
 use mathlib.Core.Path.{_≡_, sym}
 use Prim.Native.Nat.{_≤_, _-_}

@@ -1,4 +1,4 @@
--- `sheet::trailers::put_trailer` meets its contract: its bytes copied behind the rows that they tell of. Assumes nothing.
+-- `sheet::trailers::put_trailer` meets its contract: its bytes copied behind the rows that they tell of.
 use denote.Ref.{now}
 use mathlib.Core.Path.{_≡_, sym, _∙_}
 use Prim.Native.Nat.{_-_, _*_}

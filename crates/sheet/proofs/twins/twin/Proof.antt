@@ -1,4 +1,4 @@
--- `sheet::twins::twin` meets its contract: none of the stations before was found to bear the reference. Assumes nothing.
+-- `sheet::twins::twin` meets its contract: none of the stations before was found to bear the reference.
 use denote.Ref.{now}
 use mathlib.Core.Path.{_≡_}
 use Prim.Native.Nat.{_<_, _-_}

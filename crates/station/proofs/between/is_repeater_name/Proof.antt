@@ -1,4 +1,4 @@
--- `station::between::is_repeater_name` meets its contract. Assumes nothing.
+-- `station::between::is_repeater_name` meets its contract.
 use Prim.Native.Nat.{_≤_}
 use mathlib.Core.Path.{_≡_, sym, _∙_}
 use lib.ListN.{length, take}

@@ -1,4 +1,4 @@
--- `station::between::is_round` meets its contract. Assumes nothing.
+-- `station::between::is_round` meets its contract.
 use Rattle.station.specs.Between.{roundAntenna}
 use borrow.Author.Needs.{needs}
 use Rattle.station.proofs.between.is_round.Statement.{statement}

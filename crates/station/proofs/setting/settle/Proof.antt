@@ -1,8 +1,8 @@
--- `station::setting::settle` meets its contract: the station is the changed one exactly where nothing is refused. Assumes nothing.
+-- `station::setting::settle` meets its contract: the station is the changed one exactly where nothing is refused.
 use mathlib.Core.Path.{_≡_, sym, ap, _∙_}
-use Rattle.filing.specs.Outcomes.{judged}
-use Rattle.filing.proofs.RefusalLaws.{done}
-use Rattle.filing.proofs.CallLaws.{handed}
+use Rattle.basics.specs.Outcomes.{judged}
+use Rattle.basics.proofs.RefusalLaws.{done}
+use Rattle.basics.proofs.CallLaws.{handed}
 use Rattle.station.specs.Calls.{setOutcome, setStation}
 use borrow.Author.Needs.{needs}
 use Rattle.station.proofs.setting.settle.Statement.{statement}

@@ -1,4 +1,4 @@
--- `station::typed::typed_channel_code` meets its contract: each test of the code is a rule of the group. Assumes nothing.
+-- `station::typed::typed_channel_code` meets its contract: each test of the code is a rule of the group.
 use mathlib.Core.Path.{_∙_}
 use Rattle.station.specs.Groups.{channelRules}
 use borrow.Author.Needs.{needs}

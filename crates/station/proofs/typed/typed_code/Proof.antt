@@ -1,9 +1,9 @@
--- `station::typed::typed_code` meets its contract: the rules between fields are asked where the thirty hold. Assumes nothing.
+-- `station::typed::typed_code` meets its contract: the rules between fields are asked where the thirty hold.
 use mathlib.Core.Path.{_≡_, sym, _∙_}
 use mathlib.Core.List.{_++_}
-use Rattle.filing.specs.Rules.{firstBroken}
-use Rattle.filing.proofs.RuleLaws.{to-next, from-first}
-use Rattle.station.specs.Groups.{channelRules, siteRules, emissionRules, antennaRules, filingRules, firstBetween, lastBetween}
+use Rattle.basics.specs.Rules.{firstBroken}
+use Rattle.basics.proofs.RuleLaws.{to-next, from-first}
+use Rattle.station.specs.Groups.{channelRules, siteRules, emissionRules, antennaRules, coordinationRules, firstBetween, lastBetween}
 use Rattle.station.specs.Rules.{typedRules}
 use Rattle.station.specs.Between.{betweenRules}
 use Rattle.station.specs.Codes.{typedCode}
@@ -13,13 +13,13 @@ use Rattle.station.proofs.typed.typed_code.Tie as tie
 
 -- where the thirty hold, the rules between fields are asked
 past-1 : (c : tie.Else1) → let s = c .before .before .args .s in typedCode s ≡ firstBroken 31 (firstBetween s ++ lastBetween s)
-unfolding typedCode betweenRules firstBetween lastBetween typedRules channelRules siteRules emissionRules antennaRules filingRules
+unfolding typedCode betweenRules firstBetween lastBetween typedRules channelRules siteRules emissionRules antennaRules coordinationRules
 past-1 c =
     let s = c .before .before .args .s in
     to-next 0 (typedRules s) (betweenRules s) (c .before .typed-field-code .ensures) (c .if1 .left)
 
 past-2 : (c : tie.Else2) → let s = c .before .before .before .before .args .s in typedCode s ≡ firstBroken 35 (lastBetween s)
-unfolding typedCode betweenRules firstBetween lastBetween typedRules channelRules siteRules emissionRules antennaRules filingRules
+unfolding typedCode betweenRules firstBetween lastBetween typedRules channelRules siteRules emissionRules antennaRules coordinationRules
 past-2 c =
     let s = c .before .before .before .before .args .s in
     past-1 (c .before .before) ∙ to-next 30 (firstBetween s) (lastBetween s) (c .before .typed-first-between .ensures) (c .if2 .left)

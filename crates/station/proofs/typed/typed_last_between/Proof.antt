@@ -1,4 +1,4 @@
--- `station::typed::typed_last_between` meets its contract: each test of the code is a rule. Assumes nothing.
+-- `station::typed::typed_last_between` meets its contract: each test of the code is a rule.
 use mathlib.Core.Path.{_∙_}
 use Rattle.station.specs.Groups.{lastBetween}
 use borrow.Author.Needs.{needs}

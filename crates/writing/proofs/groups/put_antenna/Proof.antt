@@ -1,11 +1,11 @@
--- `writing::groups::put_antenna` meets its contract: each field is written after the one before it. Assumes nothing.
+-- `writing::groups::put_antenna` meets its contract: each field is written after the one before it.
 use mathlib.Core.Path.{_≡_}
 use mathlib.Core.Bool.{false}
 use lib.ListN.{length, drop}
 use Rattle.fields.specs.Tenths.{spellTenths}
 use Rattle.fields.specs.Distances.{spellGround}
 use Rattle.station.specs.Groups.{antennaRules, antennaPieces}
-use Rattle.filing.proofs.WriteLaws.{nothing-yet, then-one, then-text, then-some, all-written}
+use Rattle.basics.proofs.WriteLaws.{nothing-yet, then-one, then-text, then-some, all-written}
 use borrow.Author.Needs.{needs}
 use native.Mathlib.Omega.{arith}
 use Rattle.writing.proofs.groups.put_antenna.Statement.{statement}

@@ -1,10 +1,10 @@
--- `writing::groups::put_channel` meets its contract: each field is written after the one before it. Assumes nothing.
+-- `writing::groups::put_channel` meets its contract: each field is written after the one before it.
 use mathlib.Core.Path.{_≡_, refl}
 use mathlib.Core.List.{[], _∷_}
 use lib.ListN.{length, drop}
 use Rattle.fields.specs.Frequencies.{spellAmount, spellUnit}
 use Rattle.station.specs.Groups.{channelRules, channelPieces}
-use Rattle.filing.proofs.WriteLaws.{nothing-yet, then-one, then-text, then-some, all-written}
+use Rattle.basics.proofs.WriteLaws.{nothing-yet, then-one, then-text, then-some, all-written}
 use borrow.Author.Needs.{needs}
 use native.Mathlib.Omega.{arith}
 use Rattle.writing.proofs.groups.put_channel.Statement.{statement}

@@ -1,10 +1,10 @@
--- `writing::groups::put_coordination` meets its contract: each field is written after the one before it. Assumes nothing.
+-- `writing::groups::put_coordination` meets its contract: each field is written after the one before it.
 use mathlib.Core.Path.{_≡_, refl}
 use mathlib.Core.List.{[], _∷_}
 use lib.ListN.{length}
 use Rattle.columns.specs.Dates.{spellDay}
-use Rattle.station.specs.Groups.{filingRules, filingPieces}
-use Rattle.filing.proofs.WriteLaws.{nothing-yet, then-fitting, then-text, all-written}
+use Rattle.station.specs.Groups.{coordinationRules, coordinationPieces}
+use Rattle.basics.proofs.WriteLaws.{nothing-yet, then-fitting, then-text, all-written}
 use borrow.Author.Needs.{needs}
 use native.Mathlib.Omega.{arith}
 use Rattle.writing.proofs.groups.put_coordination.Statement.{statement}
@@ -69,7 +69,7 @@ same-length : tie.Need-same-length
 same-length c = search needs
 
 returns : tie.Need-returns
-unfolding filingPieces filingRules
+unfolding coordinationPieces coordinationRules
 returns c =
     let reference = c .before .before in
     let coordinated = reference .before .before .before .before .before .before in

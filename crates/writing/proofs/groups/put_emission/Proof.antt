@@ -1,11 +1,11 @@
--- `writing::groups::put_emission` meets its contract: each field is written after the one before it. Assumes nothing.
+-- `writing::groups::put_emission` meets its contract: each field is written after the one before it.
 use mathlib.Core.Path.{_≡_, refl}
 use mathlib.Core.Bool.{true}
 use mathlib.Core.List.{[], _∷_}
 use lib.ListN.{length, drop}
 use Rattle.fields.specs.Tenths.{spellTenths}
 use Rattle.station.specs.Groups.{emissionRules, emissionPieces}
-use Rattle.filing.proofs.WriteLaws.{nothing-yet, then-one, then-text, then-some, all-written}
+use Rattle.basics.proofs.WriteLaws.{nothing-yet, then-one, then-text, then-some, all-written}
 use borrow.Author.Needs.{needs}
 use native.Mathlib.Omega.{arith}
 use Rattle.writing.proofs.groups.put_emission.Statement.{statement}

@@ -1,13 +1,13 @@
--- `writing::groups::put_filing` meets its contract: each field is written after the one before it. Assumes nothing.
+-- `writing::groups::put_coordination` meets its contract: each field is written after the one before it.
 use mathlib.Core.Path.{_≡_}
 use lib.ListN.{length, drop}
 use Rattle.fields.specs.Frequencies.{spellAmount, spellUnit}
-use Rattle.station.specs.Groups.{filingRules, filingPieces}
-use Rattle.filing.proofs.WriteLaws.{nothing-yet, then-one, then-text, then-some, all-written}
+use Rattle.station.specs.Groups.{coordinationRules, coordinationPieces}
+use Rattle.basics.proofs.WriteLaws.{nothing-yet, then-one, then-text, then-some, all-written}
 use borrow.Author.Needs.{needs}
 use native.Mathlib.Omega.{arith}
-use Rattle.writing.proofs.groups.put_filing.Statement.{statement}
-use Rattle.writing.proofs.groups.put_filing.Tie as tie
+use Rattle.writing.proofs.groups.put_coordination.Statement.{statement}
+use Rattle.writing.proofs.groups.put_coordination.Tie as tie
 
 -- the texts have the width of their columns
 remarks-wide : (s : tie.Start) → length (s .args .g .remarks) ≡ 50
@@ -23,7 +23,7 @@ part-put-amount-end : tie.Need-part-put-amount-end
 part-put-amount-end c = search needs
 
 put-amount-requires : tie.Need-put-amount-requires
-unfolding filingRules
+unfolding coordinationRules
 put-amount-requires c κs = (search needs, c .before .before .pre .1 .0)
 
 sub-put-unit : tie.Need-sub-put-unit
@@ -69,7 +69,7 @@ same-length : tie.Need-same-length
 same-length c = search needs
 
 returns : tie.Need-returns
-unfolding filingPieces
+unfolding coordinationPieces
 returns c =
     let rest = c .before .before in
     let remarks = rest .before .before .before .before in
@@ -82,11 +82,11 @@ returns c =
     let w1 = then-one w0 11 (omega arith) (spellAmount (g .receive)) (receive .put-amount .ensures) (receive .put-amount .kept .0) in
     let w2 = then-one w1 1 (omega arith) (spellUnit (g .receive)) (unit .put-unit .ensures) (unit .put-unit .kept .0) in
     let w3 = then-text w2 50 (omega arith) (g .remarks) (remarks .write-text .ensures .1) (remarks-wide start) (remarks .write-text .kept .0) in
-    let w4 = then-some w3 32 (omega arith) (drop 3 (filingPieces g)) (rest .put-coordination .ensures) (rest .put-coordination .kept .1 .0) in
+    let w4 = then-some w3 32 (omega arith) (drop 3 (coordinationPieces g)) (rest .put-coordination .ensures) (rest .put-coordination .kept .1 .0) in
     all-written w4 l
 
-pub put-filing-spec : {M : Type 1} → statement M
-put-filing-spec =
+pub put-coordination-spec : {M : Type 1} → statement M
+put-coordination-spec =
     tie.close
     (tie.spec
     sub-put-amount

@@ -1,10 +1,10 @@
--- `writing::groups::put_location` meets its contract: each field is written after the one before it. Assumes nothing.
+-- `writing::groups::put_location` meets its contract: each field is written after the one before it.
 use mathlib.Core.Path.{_≡_}
 use lib.ListN.{length, take, drop}
 use Rattle.fields.specs.Distances.{spellRadius, spellHeight}
 use Rattle.fields.specs.Positions.{spellPosition}
 use Rattle.station.specs.Groups.{siteRules, sitePieces}
-use Rattle.filing.proofs.WriteLaws.{nothing-yet, then-one, all-written}
+use Rattle.basics.proofs.WriteLaws.{nothing-yet, then-one, all-written}
 use borrow.Author.Needs.{needs}
 use native.Mathlib.Omega.{arith}
 use Rattle.writing.proofs.groups.put_location.Statement.{statement}

@@ -1,9 +1,9 @@
--- `writing::groups::put_site` meets its contract: each field is written after the one before it. Assumes nothing.
+-- `writing::groups::put_site` meets its contract: each field is written after the one before it.
 use mathlib.Core.Path.{_≡_}
 use lib.ListN.{length, drop}
 use Rattle.columns.specs.Dates.{spellDay}
 use Rattle.station.specs.Groups.{siteRules, sitePieces}
-use Rattle.filing.proofs.WriteLaws.{nothing-yet, then-fitting, then-text, then-some, all-written}
+use Rattle.basics.proofs.WriteLaws.{nothing-yet, then-fitting, then-text, then-some, all-written}
 use borrow.Author.Needs.{needs}
 use native.Mathlib.Omega.{arith}
 use Rattle.writing.proofs.groups.put_site.Statement.{statement}

@@ -1,9 +1,9 @@
--- `writing::groups::put_use` meets its contract: each field is written after the one before it. Assumes nothing.
+-- `writing::groups::put_use` meets its contract: each field is written after the one before it.
 use mathlib.Core.Path.{_≡_, refl}
 use mathlib.Core.List.{[], _∷_}
 use lib.ListN.{length}
 use Rattle.station.specs.Groups.{channelPieces}
-use Rattle.filing.proofs.WriteLaws.{nothing-yet, then-text, all-written}
+use Rattle.basics.proofs.WriteLaws.{nothing-yet, then-text, all-written}
 use borrow.Author.Needs.{needs}
 use native.Mathlib.Omega.{arith}
 use Rattle.writing.proofs.groups.put_use.Statement.{statement}

@@ -1,4 +1,4 @@
--- `writing::putting::put_amount` meets its contract: the amount of a frequency that fits is written. Assumes nothing.
+-- `writing::putting::put_amount` meets its contract: the amount of a frequency that fits is written.
 use borrow.Author.Needs.{needs}
 use Rattle.writing.proofs.PutLaws.{put-fitting}
 use Rattle.writing.proofs.putting.put_amount.Statement.{statement}

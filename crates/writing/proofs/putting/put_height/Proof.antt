@@ -1,4 +1,4 @@
--- `writing::putting::put_height` meets its contract: a height above sea that fits is written. Assumes nothing.
+-- `writing::putting::put_height` meets its contract: a height above sea that fits is written.
 use borrow.Author.Needs.{needs}
 use Rattle.writing.proofs.PutLaws.{put-fitting}
 use Rattle.writing.proofs.putting.put_height.Statement.{statement}

@@ -1,4 +1,4 @@
--- `writing::putting::put_position` meets its contract: a position on the ground is written. Assumes nothing.
+-- `writing::putting::put_position` meets its contract: a position on the ground is written.
 use borrow.Author.Needs.{needs}
 use Rattle.writing.proofs.PutLaws.{put-fitting}
 use Rattle.writing.proofs.putting.put_position.Statement.{statement}

@@ -1,4 +1,4 @@
--- `writing::putting::put_radius` meets its contract: a radius that fits is written. Assumes nothing.
+-- `writing::putting::put_radius` meets its contract: a radius that fits is written.
 use borrow.Author.Needs.{needs}
 use Rattle.writing.proofs.PutLaws.{put-fitting}
 use Rattle.writing.proofs.putting.put_radius.Statement.{statement}

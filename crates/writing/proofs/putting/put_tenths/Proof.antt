@@ -1,4 +1,4 @@
--- `writing::putting::put_tenths` meets its contract: tenths that keep the rule of their field are written. Assumes nothing.
+-- `writing::putting::put_tenths` meets its contract: tenths that keep the rule of their field are written.
 use borrow.Author.Needs.{needs}
 use Rattle.writing.proofs.PutLaws.{put-fitting}
 use Rattle.writing.proofs.putting.put_tenths.Statement.{statement}

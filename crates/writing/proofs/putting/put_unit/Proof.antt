@@ -1,4 +1,4 @@
--- `writing::putting::put_unit` meets its contract: the letter of the unit is written. Assumes nothing.
+-- `writing::putting::put_unit` meets its contract: the letter of the unit is written.
 use borrow.Author.Needs.{needs}
 use Rattle.writing.proofs.PutLaws.{put-sized}
 use Rattle.writing.proofs.putting.put_unit.Statement.{statement}

@@ -1,0 +1,59 @@
+// The calls on files and sheets: judging, replacing and showing.
+use basics::outcomes::is_done;
+use basics::outcomes::refusal_number;
+use files::showing::field_place;
+use files::showing::show_outcome;
+use sheet::judging::judge;
+use sheet::replacing::replace;
+ghost use Rattle.sheet.specs.Promises.{StillJudged};
+ghost use Rattle.desk_c.specs.Promises.{FilingJudged, FilingReplaced, FieldLocated};
+
+// Judges a file into the lent sheet: 1, 2, 3, or 0.
+#[no_mangle]
+pub extern "C" fn desk_judge(file: &[u8], sheet: &mut [u8]) -> u8
+    ensures { λ r. ⌜ FilingJudged (now (file .entry)) (now (sheet .entry)) r (now (sheet .exit)) ⌝ }
+{
+    refusal_number(judge(file, sheet))
+}
+
+// Replaces a record, the header being number 0, and mends the sheet: 1 to 6, or 0 and how many rows were written.
+#[no_mangle]
+pub extern "C" fn desk_replace(
+    file: &mut [u8],
+    sheet: &mut [u8],
+    number: usize,
+    rec: &[u8],
+    rows: &mut usize,
+) -> u8
+    ensures { λ r. ⌜ FilingReplaced (now (file .entry)) (now (sheet .entry)) number (now (rec .entry)) r (now (file .exit)) (now (sheet .exit)) (now (rows .exit)) ⌝ }
+    ensures { λ _. ⌜ StillJudged (now (file .entry)) (now (sheet .entry)) (now (file .exit)) (now (sheet .exit)) ⌝ }
+{
+    let replaced = replace(file, sheet, number, rec);
+    let outcome = replaced.outcome;
+    *rows = replaced.rows;
+    refusal_number(outcome)
+}
+
+// Where a field stands in the file and how long it is: 1, 2, 5, 8, or 0.
+#[no_mangle]
+pub extern "C" fn desk_show(
+    file: &[u8],
+    number: usize,
+    field: usize,
+    offset: &mut usize,
+    length: &mut usize,
+) -> u8
+    ensures { λ r. ⌜ FieldLocated (now (file .entry)) number field r (now (offset .exit)) (now (length .exit)) ⌝ }
+{
+    let outcome = show_outcome(file, number, field);
+    if !is_done(outcome) {
+        *offset = 0;
+        *length = 0;
+        return refusal_number(outcome);
+    }
+    let place = field_place(number, field);
+    let before = place.first - 1;
+    *offset = 219 * number + before;
+    *length = place.length;
+    0
+}

@@ -1,0 +1,44 @@
+-- The sheet that is judged for a report: it is the file's, and its trailer has the number of its bad rows.
+use mathlib.Core.Path.{_≡_, ap, _∙_}
+use mathlib.Core.Bool.{not, true}
+use mathlib.Core.List.{List, [], _∷_}
+use Prim.Native.Nat.{ℕ}
+use lib.ListN.{length}
+use borrow.Author.Tests.{eq-eqb}
+use Rattle.columns.specs.Texts.{sized}
+use Rattle.basics.specs.Outcomes.{refusal, when}
+use Rattle.basics.specs.declared.Outcome.the-variants as outcome
+use Rattle.basics.proofs.RefusalLaws.{done, if-done, passes, none-left, asked-on}
+use Rattle.files.specs.Files.{stations}
+use Rattle.files.specs.Calls.{fileTests}
+use Rattle.files.proofs.LengthLaws.{length-passed}
+use Rattle.stations.specs.Counting.{count}
+use Rattle.sheet.specs.Sheets.{sheetLength, bad, foundIn, judgedSheet, sheetOf}
+use Rattle.sheet.specs.Calls.{judgeOutcome, judgedInto}
+use Rattle.sheet.proofs.SheetLaws.{judged-found}
+use Rattle.printing.specs.Reports.{sheetLines, sheetReport, lengthOutcome}
+
+-- Judging a file whose length is right into a sheet that fits it is done.
+judged-so : (file sheet : List ℕ) → done (lengthOutcome file) ≡ true → length sheet ≡ sheetLength (stations file) → judgeOutcome file sheet ≡ outcome.Done
+unfolding judgeOutcome
+judged-so file sheet t l =
+    let sheetTests = when (not (sized (sheetLength (stations file)) sheet)) outcome.SheetLength ∷ [] in
+    asked-on (fileTests file) sheetTests (length-passed file t) ∙ passes outcome.SheetLength [] (rw (eq-eqb (length sheet) (sheetLength (stations file)) l)) ∙ none-left
+
+-- A file whose length is right, judged into a sheet that fits it, leaves its own sheet.
+pub judged-whole : (file sheet : List ℕ) → done (lengthOutcome file) ≡ true → length sheet ≡ sheetLength (stations file) → judgedInto file sheet ≡ sheetOf file
+unfolding judgedInto refusal
+judged-whole file sheet t l = if-done (judgeOutcome file sheet) (sheetOf file) sheet (ap done (judged-so file sheet t l))
+
+-- The trailer of a file's sheet has the number of its bad rows.
+pub bad-found : (file : List ℕ) → foundIn (sheetOf file) (stations file) ≡ count (bad (sheetOf file)) (stations file)
+unfolding sheetOf
+bad-found file = judged-found file (stations file)
+
+-- The lines of the sheet that judging leaves are the lines of the file's sheet.
+pub judged-lines : (file sheet after : List ℕ) (n : ℕ) → done (lengthOutcome file) ≡ true → n ≡ stations file → length sheet ≡ sheetLength n → after ≡ judgedInto file sheet
+    → sheetLines after n (foundIn after n) ≡ sheetReport (sheetOf file) n
+unfolding sheetReport
+judged-lines file sheet after n t en l ea =
+    let own : after ≡ sheetOf file = ea ∙ judged-whole file sheet t (rw en at l) in
+    rw (own, en) (ap (λ (m : ℕ). sheetLines (sheetOf file) (stations file) m) (bad-found file))

@@ -1,0 +1,35 @@
+-- Document 01, "Worked figures": what is printed of the two-station file and of a header alone, from their sheets.
+use mathlib.Core.Path.{_≡_, refl}
+use mathlib.Core.List.{List, [], _∷_, _++_}
+use Prim.Native.Nat.{ℕ}
+use Prim.Native.String.{String}
+use Rattle.columns.specs.Numbers.{spellDigits}
+use Rattle.columns.specs.Texts.{bytes, every}
+use Rattle.sheet.specs.Forms.{rowAt, badAt, headAt}
+use Rattle.printing.specs.Lines.{places, decimal, lineFeed, headerLine, stationLine, totalLine, brokenLine}
+use Rattle.printing.specs.Reports.{rowLine, sheetLines, sheetReport}
+
+-- A line and its end.
+abbrev line : String → List ℕ
+line text = bytes text ++ lineFeed
+
+-- A valid header with count 2 and station S twice: the sheet 00 00 00 01 00 0C 02 00 02 01 32 41.
+pub two-stations : sheetReport (0 ∷ 0 ∷ 0 ∷ 1 ∷ 0 ∷ 12 ∷ 2 ∷ 0 ∷ 2 ∷ 1 ∷ 50 ∷ 65 ∷ []) 2
+    ≡ line "header 0" ++ (line "station 2 code 0 twin 1" ++ line "stations 2 bad 1")
+unfolding sheetReport sheetLines headerLine rowLine stationLine totalLine headAt badAt rowAt every decimal places spellDigits
+two-stations = refl
+
+-- A valid header alone, count 0: the sheet 00 08 02 00 00 00 32 41.
+pub header-alone : sheetReport (0 ∷ 8 ∷ 2 ∷ 0 ∷ 0 ∷ 0 ∷ 50 ∷ 65 ∷ []) 0 ≡ line "header 0" ++ line "stations 0 bad 0"
+unfolding sheetReport sheetLines headerLine totalLine headAt decimal places spellDigits
+header-alone = refl
+
+-- Numbers of three, two and one digit.
+pub three-widths : stationLine 250 39 7 ≡ line "station 250 code 39 twin 7"
+unfolding stationLine decimal places spellDigits
+three-widths = refl
+
+-- A station that breaks a rule, in a list.
+pub in-its-place : brokenLine 250 7 ≡ line "station 250 code 7"
+unfolding brokenLine decimal places spellDigits
+in-its-place = refl

@@ -1,0 +1,31 @@
+-- `printing::reports::put_judged` meets its contract: the sheet that is judged is the file's, and its trailer has the number of its bad rows.
+use denote.Ref.{now}
+use Rattle.printing.proofs.SheetLaws.{judged-lines}
+use Rattle.printing.proofs.ReportLaws.{few}
+use borrow.Author.Needs.{needs}
+use Rattle.printing.proofs.reports.put_judged.Statement.{statement}
+use Rattle.printing.proofs.reports.put_judged.Tie as tie
+
+judge-requires : tie.Need-judge-requires
+judge-requires c κs = search needs
+
+put-sheet-requires : tie.Need-put-sheet-requires
+put-sheet-requires c κs =
+    let start = c .before .before .before .before .before .before .before .before .before in
+    (few (now (start .args .file)) (start .pre .1) (start .pre .0 .0), search needs, search needs)
+
+same-length : tie.Need-same-length
+same-length c = search needs
+
+same-length-2 : tie.Need-same-length-2
+same-length-2 c = search needs
+
+returns : tie.Need-returns
+returns c =
+    let start = c .before .before .before .before .before .before .before .before .before .before .before .before in
+    let a = start .args in
+    rw (← judged-lines (now (a .file)) (now (a .sheet)) _ (a .n) (start .pre .1) (start .pre .0 .0) (start .pre .0 .1) (c .before .before .before .before .before .before .before .judge .ensures .1)) (c .before .before .put-sheet .ensures)
+
+pub put-judged-spec : {M : Type 1} → statement M
+put-judged-spec =
+    tie.close (tie.spec judge-requires put-sheet-requires same-length same-length-2 returns)

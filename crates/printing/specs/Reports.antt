@@ -1,0 +1,32 @@
+-- Document 01, "The sheet": what the program prints of a file.
+use Prim.Native.Nat.{ℕ}
+use mathlib.Core.Bool.{cond}
+use mathlib.Core.List.{List, [], _++_}
+use Rattle.basics.specs.Outcomes.{refusal, ifDone, firstRefusal}
+use Rattle.basics.specs.declared.Outcome.{Outcome}
+use Rattle.files.specs.Files.{stations}
+use Rattle.files.specs.Calls.{fileTests}
+use Rattle.stations.specs.Counting.{count, rows}
+use Rattle.sheet.specs.Forms.{codeIn}
+use Rattle.sheet.specs.Sheets.{rowIn, twinIn, bad, sheetOf, headIn}
+use Rattle.printing.specs.Lines.{refusedLine, headerLine, stationLine, totalLine}
+
+-- The line of row k: its code and its twin where it is bad, else none.
+unfoldable pub rowLine : List ℕ → ℕ → List ℕ
+rowLine sheet k = cond (bad sheet k) (stationLine k (codeIn (rowIn sheet k)) (twinIn sheet k)) []
+
+-- The lines of a sheet of n rows of which so many are bad: the header's code, the bad rows ascending, and both numbers.
+unfoldable pub sheetLines : List ℕ → ℕ → ℕ → List ℕ
+sheetLines sheet n found = headerLine (headIn sheet n) ++ (rows (rowLine sheet) n ++ totalLine n found)
+
+-- The lines of a sheet of n rows.
+unfoldable pub sheetReport : List ℕ → ℕ → List ℕ
+sheetReport sheet n = sheetLines sheet n (count (bad sheet) n)
+
+-- What settles the file's length: 1, 2, or done.
+abbrev pub lengthOutcome : List ℕ → Outcome
+lengthOutcome file = firstRefusal (fileTests file)
+
+-- The report of a file: the lines of the sheet judged from it, and on a refusal its one line.
+unfoldable pub reportOf : List ℕ → List ℕ
+reportOf file = ifDone (lengthOutcome file) (sheetReport (sheetOf file) (stations file)) (refusedLine (refusal (lengthOutcome file)))
