@@ -124,7 +124,7 @@ pub(crate) fn put_antenna(g: Antenna, s: &mut [u8])
 }
 
 // 13Y, 2W, 2Z and 13X, columns 188 to 219: how it was coordinated.
-fn put_coordination(g: Coordination, s: &mut [u8])
+fn put_status(g: Coordination, s: &mut [u8])
     requires { ⌜ (length (now s) ≡ 32) × All (coordinationRules g) ⌝ }
     ensures { λ _. ⌜ now (s .exit) ≡ joined (drop 3 (coordinationPieces g)) ⌝ }
 {
@@ -147,5 +147,5 @@ pub(crate) fn put_coordination(g: Coordination, s: &mut [u8])
     put_unit(&mut s[11..12], receive);
     let remarks = g.remarks;
     write_text(&mut s[12..62], &remarks);
-    put_coordination(g, &mut s[62..94]);
+    put_status(g, &mut s[62..94]);
 }
