@@ -9,7 +9,7 @@
  * Every function but desk_rules returns the number of its refusal, DESK_DONE (0) if there is
  * none. Where more than one refusal applies the lowest number is given, unless the function says
  * otherwise. A refused call changes no lent byte. The answers behind `code`, `rows`, `offset` and
- * `length` are always written; `code` is 0 with any refusal but DESK_REFUSED_RULE (9).
+ * `length` are always written; `code` is 0 with any refusal but DESK_REFUSED_RULE_BROKEN (9).
  *
  * Each pointer and the length after it are one lent slice. No pointer may be NULL, even where the
  * length is 0, and no two slices of a call may overlap. No pointer is kept after the call, and
@@ -38,17 +38,17 @@ extern "C" {
 enum desk_refusal {
     DESK_DONE = 0,                       /* not refused */
     DESK_REFUSED_FILE_TOO_LONG = 1,      /* the file is longer than 54,969 bytes */
-    DESK_REFUSED_FILE_NOT_RECORDS = 2,        /* the file's length is zero or no multiple of 219 */
+    DESK_REFUSED_FILE_NOT_RECORDS = 2,   /* the file's length is zero or no multiple of 219 */
     DESK_REFUSED_SHEET_LENGTH = 3,       /* the lent sheet is not exactly 2n + 8 bytes */
     DESK_REFUSED_SHEET_TRAILER = 4,      /* the trailer lacks "2A", width 2 or distance 2n + 8 */
-    DESK_REFUSED_NUMBER = 5,             /* the record number is above n (0 is the header) */
+    DESK_REFUSED_NO_SUCH_RECORD = 5,     /* the record number is above n (0 is the header) */
     DESK_REFUSED_RECORD_LENGTH = 6,      /* the record offered is not 219 bytes */
     DESK_REFUSED_BUFFER_LENGTH = 7,      /* the buffer to write into is not 219 bytes */
-    DESK_REFUSED_FIELD = 8,              /* stations have fields 1 to 30, the header 1 to 14 */
-    DESK_REFUSED_RULE = 9,               /* a record or value breaks a rule; its code comes too */
-    DESK_REFUSED_LINE_SHAPE = 10,        /* not 29 semicolons and one line feed, the last byte */
-    DESK_REFUSED_FIELD_LENGTH = 11,      /* a field of the line is longer than its columns */
-    DESK_REFUSED_LINE_BUFFER = 12        /* the lent buffer is shorter than the line */
+    DESK_REFUSED_NO_SUCH_FIELD = 8,      /* stations have fields 1 to 30, the header 1 to 14 */
+    DESK_REFUSED_RULE_BROKEN = 9,        /* a record or value breaks a rule; its code comes too */
+    DESK_REFUSED_NOT_A_LINE = 10,        /* not 29 semicolons and one line feed, the last byte */
+    DESK_REFUSED_FIELD_TOO_LONG = 11,    /* a field of the line is longer than its columns */
+    DESK_REFUSED_BUFFER_TOO_SHORT = 12   /* the lent buffer is shorter than the line */
 };
 
 /*

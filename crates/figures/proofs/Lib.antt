@@ -1,2 +1,4 @@
 pub mod Figures
 pub mod Worked
+pub mod Typed
+pub mod Days

@@ -1,38 +1,16 @@
 -- Document 02, wish 2: days that the calendar has and has not, in stations, headers, typed values and lists; computed from the definitions.
 use Prim.Native.Nat.{ℕ}
 use Prim.Native.String.{String}
-use mathlib.Core.Path.{_≡_, refl}
+use mathlib.Core.Path.{_≡_}
 use mathlib.Core.Bool.{true, false}
 use mathlib.Core.List.{List, [], _∷_, _++_, map}
 use lib.ListN.{length, replicate}
-use Rattle.columns.specs.Sets.{among, isHex, isNarrow, isText, isName, isMail}
-use Rattle.columns.specs.Texts.{bytes, skip, trimmed, every, howMany, each, byteGood, same, oneOf, textGood}
-use Rattle.columns.specs.Numbers.{leading, numberFrom, wholeDigits, wholeOf, unsigned, signedOf}
-use Rattle.columns.specs.Decimals.{fractionOf, magnitudeOf, decimalOf}
-use Rattle.columns.specs.Dates.{dateRule, dateIn, dateOf, dayGood, dayOf, dayFits, dateGood, dateFits}
-use Rattle.fields.specs.Tenths.{tenthsGood, tenthsOf, tenthsFit}
-use Rattle.fields.specs.Frequencies.{amountGood, unitGood, unitOf, frequencyOf, frequencyFits}
-use Rattle.fields.specs.Distances.{radiusOf, groundOf, heightGood, heightOf, radiusFits, groundFits, heightFits}
-use Rattle.fields.specs.Positions.{arcSeconds, arcGood, arcOf, positionGood, positionOf, positionFits}
-use Rattle.fields.specs.Emission.{bandwidthGood, detailGood, emissionGood}
-use Rattle.fields.specs.Remarks.{cellGood, installationGood, remarksGood}
-use Rattle.fields.specs.Codes.{isCategory, classGood, serviceGood, usersGood, isCarrier, nameGood, countryGood, isBasis, polarisationGood, antennaGood, isStatus, referenceGood}
-use Rattle.basics.specs.Rules.{firstBroken}
-use Rattle.basics.specs.Outcomes.{refusal, codeWith, judged}
-use Rattle.station.specs.Places.{fieldsOf}
-use Rattle.station.specs.Rules.{fieldRules, channelFields, siteFields, emissionFields, antennaFields, coordinationFields, channelRules, siteRules, emissionRules, antennaRules, coordinationRules, typedRules}
-use Rattle.station.specs.Between.{mobile, roundAntenna, firstBetween, lastBetween, betweenRules}
-use Rattle.station.specs.Values.{stationOf}
-use Rattle.station.specs.Codes.{valueOf, stationCode, typedCode}
+use Rattle.columns.specs.Texts.{bytes}
+use Rattle.columns.specs.Dates.{dayGood, dateGood, dateFits}
+use Rattle.basics.specs.Outcomes.{refusal, codeWith}
+use Rattle.station.specs.Codes.{stationCode, typedCode}
 use Rattle.station.specs.Calls.{writeOutcome}
-use Rattle.lists.specs.Fields.{trimmedField, paddedField}
-use Rattle.lists.specs.Lines.{before, behind, split, lineFields, isLine}
-use Rattle.lists.specs.Lines as lines
-use Rattle.lists.specs.Outcomes.{listedRefusal, listedCode, unbroken}
 use Rattle.lists.specs.Calls.{lineOutcome}
-use Rattle.header.specs.Places.{headerFields}
-use Rattle.header.specs.Values.{serialGood, serialOf, headerOf}
-use Rattle.header.specs.Rules.{headerRules}
 use Rattle.header.specs.Codes.{headerCode}
 use Rattle.figures.specs.Samples.{sWith, headerWith}
 use Rattle.figures.specs.Typed.{typedS, sited, filed, dated, ended, dashes}
@@ -72,24 +50,4 @@ pub record RealDays : Type 0 where
   pub typed-header : (dateFits (dated 29 2 2000) ≡ true) × (dateFits (dated 29 2 2100) ≡ false)
   pub not-written : ended (writeOutcome (sited (dated 30 2 2024) (typedS .site .position) (typedS .site .radius)) (dashes 219)) ≡ (9 ∷ 8 ∷ [])
   -- A list refuses it with 9 and the code.
-  pub not-listed : (listedRefusal (lineOutcome lateLine) ≡ 9) × (listedCode (lineOutcome lateLine) ≡ 8)
-
-pub real-days : RealDays
-unfolding among isHex isNarrow isText isName isMail skip trimmed every howMany each byteGood same oneOf textGood leading numberFrom wholeDigits wholeOf unsigned signedOf fractionOf magnitudeOf decimalOf dateRule dateIn dateOf dayGood dayOf dayFits dateGood dateFits tenthsGood tenthsOf tenthsFit amountGood unitGood unitOf frequencyOf frequencyFits radiusOf groundOf heightGood heightOf radiusFits groundFits heightFits arcSeconds arcGood arcOf positionGood positionOf positionFits bandwidthGood detailGood emissionGood cellGood installationGood remarksGood isCategory classGood serviceGood usersGood isCarrier nameGood countryGood isBasis polarisationGood antennaGood isStatus referenceGood firstBroken refusal codeWith judged fieldsOf fieldRules channelFields siteFields emissionFields antennaFields coordinationFields channelRules siteRules emissionRules antennaRules coordinationRules typedRules mobile roundAntenna firstBetween lastBetween betweenRules stationOf valueOf stationCode typedCode writeOutcome trimmedField paddedField before behind split lineFields isLine lines.recordOf listedRefusal listedCode unbroken lineOutcome headerFields serialGood serialOf headerOf headerRules headerCode
-real-days = record {
-  station-takes = refl;
-  station-refuses = refl;
-  header-takes = refl;
-  header-refuses = refl;
-  leap-day = refl;
-  no-day = refl;
-  header-leap-day = refl;
-  header-no-day = refl;
-  typed-leap-day = refl;
-  typed-no-day = refl;
-  typed-request = refl;
-  typed-agreement = refl;
-  typed-header = (refl, refl);
-  not-written = refl;
-  not-listed = (refl, refl);
-}
+  pub not-listed : (refusal (lineOutcome lateLine) ≡ 9) × (codeWith (lineOutcome lateLine) ≡ 8)

@@ -2,24 +2,12 @@
 -- once, with a value set, and the empty station written; computed from the definitions.
 use Prim.Native.Nat.{ℕ, _-_}
 use Prim.Native.String.{String}
-use mathlib.Core.Path.{_≡_, refl}
+use mathlib.Core.Path.{_≡_}
 use mathlib.Core.List.{List, [], _∷_, map}
 use lib.IntN.{pos, negℤ}
 use lib.ListN.{set, replicate}
-use Rattle.columns.specs.Sets.{among, isHex, isNarrow, isText, isName}
-use Rattle.columns.specs.Texts.{skip, trimmed, every, howMany, each, byteGood, same, oneOf}
-use Rattle.columns.specs.Numbers.{leading, numberFrom, wholeDigits, wholeOf, unsigned, signedOf, spellDigits, spellSigned}
-use Rattle.columns.specs.Decimals.{fractionOf, magnitudeOf, decimalOf, spellMagnitude, spellDecimal}
-use Rattle.columns.specs.Dates.{dateRule, dateIn, dateOf, dayGood, dayOf, dayFits, spellDate, spellDay}
 use Rattle.columns.specs.declared.dates.Day.{Day}
 use Rattle.columns.specs.declared.dates.Day.the-variants as day
-use Rattle.fields.specs.Tenths.{tenthsGood, tenthsOf, tenthsFit, spellTenths}
-use Rattle.fields.specs.Frequencies.{amountGood, unitGood, unitOf, frequencyOf, frequencyFits, unitLetter, spellAmount, spellUnit}
-use Rattle.fields.specs.Distances.{radiusOf, groundOf, heightGood, heightOf, radiusFits, groundFits, heightFits, spellRadius, spellGround, spellHeight}
-use Rattle.fields.specs.Positions.{arcSeconds, arcGood, arcOf, positionGood, positionOf, positionFits, spellArc, spellPosition}
-use Rattle.fields.specs.Emission.{bandwidthGood, detailGood, emissionGood}
-use Rattle.fields.specs.Remarks.{cellGood, installationGood, remarksGood}
-use Rattle.fields.specs.Codes.{isCategory, classGood, serviceGood, usersGood, isCarrier, nameGood, countryGood, isBasis, polarisationGood, antennaGood, isStatus, referenceGood}
 use Rattle.fields.specs.declared.frequencies.Frequency.{Frequency}
 use Rattle.fields.specs.declared.frequencies.Frequency.the-variants as frequency
 use Rattle.fields.specs.declared.frequencies.Hertz.the-variants as hertz
@@ -28,17 +16,12 @@ use Rattle.fields.specs.declared.tenths.Tenths.the-variants as tenths
 use Rattle.fields.specs.declared.distances.Kilometres.{Kilometres}
 use Rattle.fields.specs.declared.distances.Height.the-variants as height
 use Rattle.fields.specs.declared.positions.Position.{Position}
-use Rattle.basics.specs.Rules.{firstBroken}
-use Rattle.basics.specs.Outcomes.{refusal, codeWith, ifDone, judged}
+use Rattle.basics.specs.Outcomes.{refusal, codeWith}
 use Rattle.basics.specs.declared.Outcome.{Outcome}
-use Rattle.station.specs.Places.{fieldsOf}
-use Rattle.station.specs.Rules.{fieldRules, channelFields, siteFields, emissionFields, antennaFields, coordinationFields, channelRules, siteRules, emissionRules, antennaRules, coordinationRules, typedRules}
-use Rattle.station.specs.Between.{mobile, roundAntenna, firstBetween, lastBetween, betweenRules}
-use Rattle.station.specs.Values.{stationOf, emptyStation}
-use Rattle.station.specs.Spelling.{channelPieces, sitePieces, emissionPieces, antennaPieces, coordinationPieces, stationPieces, spellStation}
-use Rattle.station.specs.Codes.{valueOf, stationCode, typedCode}
+use Rattle.station.specs.Values.{emptyStation}
+use Rattle.station.specs.Codes.{valueOf, typedCode}
 use Rattle.station.specs.Calls.{readOutcome, readStation, writeOutcome, writtenStation, setOutcome, setStation}
-use Rattle.station.specs.Setting.{withSite, withAntenna, withPower, withAzimuth, withElevation, withHeight, withGround}
+use Rattle.station.specs.Setting.{withValue, withPower, withAzimuth, withElevation, withHeight, withGround}
 use Rattle.station.specs.declared.Station.{Station}
 use Rattle.figures.specs.Samples.{recordFrom, stationS}
 use Rattle.figures.specs.Worked.{spelledS}
@@ -61,70 +44,19 @@ saidWith k t = said (put k t stationS)
 
 -- Station S with a value changed that no text says: 1A,
 abbrev pub withTransmit : Frequency → Station
-withTransmit v =
-    let s = typedS in
-    record {
-      channel = record {
-        transmit = v;
-        category = s .channel .category;
-        class = s .channel .class;
-        service = s .channel .service;
-        users = s .channel .users;
-        carrier = s .channel .carrier;
-      };
-      site = s .site;
-      emission = s .emission;
-      antenna = s .antenna;
-      coordination = s .coordination;
-    }
+withTransmit v = withValue 1 typedS v
 
 -- 2C, 4C or 4D,
 abbrev pub sited : Day → Position → Kilometres → Station
-sited started position radius =
-    let s = typedS .site in
-    withSite
-    typedS
-    (record {
-      started = started;
-      name = s .name;
-      country = s .country;
-      position = position;
-      radius = radius;
-      height = s .height;
-    })
+sited started position radius = withValue 8 (withValue 11 (withValue 12 typedS radius) position) started
 
 -- 9G,
 abbrev pub withGain : Tenths → Station
-withGain v =
-    let s = typedS .antenna in
-    withAntenna
-    typedS
-    (record {
-      polarisation = s .polarisation;
-      gain = v;
-      ground = s .ground;
-      horizontal = s .horizontal;
-      vertical = s .vertical;
-    })
+withGain v = withValue 20 typedS v
 
 -- 1Y, 2W or 2Z.
 abbrev pub filed : Frequency → Day → Day → Station
-filed receive requested coordinated =
-    let s = typedS in
-    record {
-      channel = s .channel;
-      site = s .site;
-      emission = s .emission;
-      antenna = s .antenna;
-      coordination = record {
-        receive = receive;
-        remarks = s .coordination .remarks;
-        status = s .coordination .status;
-        requested = requested;
-        coordinated = coordinated;
-        reference = s .coordination .reference;
-      };
-    }
+filed receive requested coordinated = withValue 24 (withValue 28 (withValue 29 typedS coordinated) requested) receive
 
 -- A typed date, whether or not there is such a day.
 abbrev pub dated : ℕ → ℕ → ℕ → Day
@@ -218,23 +150,3 @@ pub record TypedWorked : Type 0 where
   pub short-kept : writtenStation emptyStation (dashes 218) ≡ dashes 218
   pub empty-ends : ended (writeOutcome emptyStation (dashes 219)) ≡ (9 ∷ 6 ∷ [])
   pub empty-kept : writtenStation emptyStation (dashes 219) ≡ dashes 219
-
-pub typed-worked : TypedWorked
-unfolding among isHex isNarrow isText isName skip trimmed every howMany each byteGood same oneOf leading numberFrom wholeDigits wholeOf unsigned signedOf spellDigits spellSigned fractionOf magnitudeOf decimalOf spellMagnitude spellDecimal dateRule dateIn dateOf dayGood dayOf dayFits spellDate spellDay tenthsGood tenthsOf tenthsFit spellTenths amountGood unitGood unitOf frequencyOf frequencyFits unitLetter spellAmount spellUnit radiusOf groundOf heightGood heightOf radiusFits groundFits heightFits spellRadius spellGround spellHeight arcSeconds arcGood arcOf positionGood positionOf positionFits spellArc spellPosition bandwidthGood detailGood emissionGood cellGood installationGood remarksGood isCategory classGood serviceGood usersGood isCarrier nameGood countryGood isBasis polarisationGood antennaGood isStatus referenceGood firstBroken refusal codeWith ifDone judged fieldsOf fieldRules channelFields siteFields emissionFields antennaFields coordinationFields channelRules siteRules emissionRules antennaRules coordinationRules typedRules mobile roundAntenna firstBetween lastBetween betweenRules stationOf emptyStation channelPieces sitePieces emissionPieces antennaPieces coordinationPieces stationPieces spellStation valueOf stationCode typedCode readOutcome readStation writeOutcome writtenStation setOutcome setStation
-typed-worked = record {
-  read-ends = refl;
-  written-ends = refl;
-  written = refl;
-  read-again = refl;
-  written-again = refl;
-  codes = refl;
-  power = (refl, refl);
-  azimuth = (refl, refl);
-  elevation = (refl, refl);
-  sea-height = (refl, refl);
-  ground = (refl, refl);
-  short-ends = refl;
-  short-kept = refl;
-  empty-ends = refl;
-  empty-kept = refl;
-}

@@ -105,7 +105,7 @@ pub fn show(file: &[u8], number: usize, field: usize) -> Result<&[u8], Refusal> 
 /// ```
 /// # let station = include_bytes!(concat!(env!("CARGO_MANIFEST_DIR"), "/station-s.txt"));
 /// assert_eq!(desk::check_station(station), Ok(()));
-/// assert_eq!(desk::check_station(&[b' '; 219]), Err(desk::Refusal::BrokenRule { code: 3 }));
+/// assert_eq!(desk::check_station(&[b' '; 219]), Err(desk::Refusal::RuleBroken { code: 3 }));
 /// assert_eq!(desk::check_station(&[]), Err(desk::Refusal::RecordLength));
 /// ```
 pub fn check_station(record: &[u8]) -> Result<(), Refusal> {
@@ -116,7 +116,7 @@ pub fn check_station(record: &[u8]) -> Result<(), Refusal> {
 /// Whether a record is a header that breaks none of the rules 1 to 14. Refusals: 6, 9.
 ///
 /// ```
-/// assert_eq!(desk::check_header(&[b' '; 219]), Err(desk::Refusal::BrokenRule { code: 1 }));
+/// assert_eq!(desk::check_header(&[b' '; 219]), Err(desk::Refusal::RuleBroken { code: 1 }));
 /// ```
 pub fn check_header(record: &[u8]) -> Result<(), Refusal> {
     let (refusal, code) = raw::header_code(record);
@@ -182,7 +182,7 @@ pub fn set_power(record: &mut [u8], tenths: Option<i64>) -> Result<(), Refusal> 
 /// desk::set_azimuth(&mut record, Some(3_599))?;
 /// assert_eq!(&record[91..96], b"359.9");
 /// let refused = desk::set_azimuth(&mut record, Some(3_600));
-/// assert_eq!(refused, Err(desk::Refusal::BrokenRule { code: 17 }));
+/// assert_eq!(refused, Err(desk::Refusal::RuleBroken { code: 17 }));
 /// # Ok::<(), desk::Refusal>(())
 /// ```
 pub fn set_azimuth(record: &mut [u8], tenths: Option<i64>) -> Result<(), Refusal> {

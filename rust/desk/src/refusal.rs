@@ -22,16 +22,16 @@ pub enum Refusal {
     /// 8: stations have fields 1 to 30, the header 1 to 14.
     NoSuchField,
     /// 9: a record or value breaks a rule.
-    BrokenRule {
+    RuleBroken {
         /// The code of the first rule broken.
         code: u8,
     },
     /// 10: the line has not twenty-nine semicolons and one line feed as its last byte.
-    LineShape,
+    NotALine,
     /// 11: a field of the line is longer than its columns.
     FieldTooLong,
     /// 12: the lent buffer is shorter than the line.
-    LineBuffer,
+    BufferTooShort,
 }
 
 impl Refusal {
@@ -51,10 +51,10 @@ impl Refusal {
             6 => Refusal::RecordLength,
             7 => Refusal::BufferLength,
             8 => Refusal::NoSuchField,
-            9 => Refusal::BrokenRule { code },
-            10 => Refusal::LineShape,
+            9 => Refusal::RuleBroken { code },
+            10 => Refusal::NotALine,
             11 => Refusal::FieldTooLong,
-            12 => Refusal::LineBuffer,
+            12 => Refusal::BufferTooShort,
             _ => panic!("the library has no refusal {number}"),
         };
         Some(refusal)
@@ -64,7 +64,7 @@ impl Refusal {
     ///
     /// ```
     /// assert_eq!(desk::Refusal::SheetLength.number(), 3);
-    /// assert_eq!(desk::Refusal::BrokenRule { code: 17 }.number(), 9);
+    /// assert_eq!(desk::Refusal::RuleBroken { code: 17 }.number(), 9);
     /// ```
     pub fn number(self) -> u8 {
         match self {
@@ -76,10 +76,10 @@ impl Refusal {
             Refusal::RecordLength => 6,
             Refusal::BufferLength => 7,
             Refusal::NoSuchField => 8,
-            Refusal::BrokenRule { .. } => 9,
-            Refusal::LineShape => 10,
+            Refusal::RuleBroken { .. } => 9,
+            Refusal::NotALine => 10,
             Refusal::FieldTooLong => 11,
-            Refusal::LineBuffer => 12,
+            Refusal::BufferTooShort => 12,
         }
     }
 }
@@ -95,10 +95,10 @@ impl fmt::Display for Refusal {
             Refusal::RecordLength => write!(f, "the record is not 219 bytes"),
             Refusal::BufferLength => write!(f, "the buffer is not 219 bytes"),
             Refusal::NoSuchField => write!(f, "the record has no field with this number"),
-            Refusal::BrokenRule { code } => write!(f, "rule {code} is broken"),
-            Refusal::LineShape => write!(f, "the line has not 29 semicolons and a line feed"),
+            Refusal::RuleBroken { code } => write!(f, "rule {code} is broken"),
+            Refusal::NotALine => write!(f, "the line has not 29 semicolons and a line feed"),
             Refusal::FieldTooLong => write!(f, "a field of the line is longer than its columns"),
-            Refusal::LineBuffer => write!(f, "the buffer is shorter than the line"),
+            Refusal::BufferTooShort => write!(f, "the buffer is shorter than the line"),
         }
     }
 }
@@ -115,6 +115,6 @@ mod tests {
         for number in 1..=12 {
             assert_eq!(Refusal::from_numbers(number, 5).map(Refusal::number), Some(number));
         }
-        assert_eq!(Refusal::from_numbers(9, 5), Some(Refusal::BrokenRule { code: 5 }));
+        assert_eq!(Refusal::from_numbers(9, 5), Some(Refusal::RuleBroken { code: 5 }));
     }
 }

@@ -184,8 +184,8 @@ fn refused(why: &str) -> Trouble {
 fn told(number: usize, line: &[u8], refusal: Refusal) -> String {
     let mut text = format!("line {number} refused {}", refusal.number());
     match refusal {
-        Refusal::BrokenRule { code } => text += &format!(" code {code}"),
-        Refusal::LineShape => {
+        Refusal::RuleBroken { code } => text += &format!(" code {code}"),
+        Refusal::NotALine => {
             let marks = desk::line_marks(line);
             let ended = if marks.ended { "yes" } else { "no" };
             text += &format!(" semicolons {} line feed {ended}", marks.semicolons);

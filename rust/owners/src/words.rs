@@ -16,9 +16,9 @@ const DATES: [usize; 3] = [8, 28, 29];
 pub fn explain(number: usize, line: &[u8], refusal: Refusal) -> Vec<String> {
     let mut words = Vec::new();
     match refusal {
-        Refusal::LineShape => shape(line, &mut words),
+        Refusal::NotALine => shape(line, &mut words),
         Refusal::FieldTooLong => too_long(line, &mut words),
-        Refusal::BrokenRule { code } => broken(line, code.into(), &mut words),
+        Refusal::RuleBroken { code } => broken(line, code.into(), &mut words),
         Refusal::FileTooLong => {
             words.push("a filing has at most 250 stations; this line is one more".to_string())
         }
@@ -32,7 +32,7 @@ pub fn explain(number: usize, line: &[u8], refusal: Refusal) -> Vec<String> {
 pub fn field_of(line: &[u8], refusal: Refusal) -> Option<usize> {
     match refusal {
         Refusal::FieldTooLong => desk::long_field(line).map(|field| field.number),
-        Refusal::BrokenRule { code } => {
+        Refusal::RuleBroken { code } => {
             Some(code.into()).filter(|&code| code <= rules::STATION_FIELDS)
         }
         _ => None,
@@ -100,7 +100,7 @@ fn seen(number: usize, line: &[u8], refusal: Refusal, words: &mut Vec<String>) {
     if bare.split(|&byte| byte == b';' || byte == b',').any(is_quoted) {
         say("cells stand in quotation marks; tools/clean_list takes them off");
     }
-    if refusal == Refusal::LineShape {
+    if refusal == Refusal::NotALine {
         if is_separated_by(b',', row) {
             say("it has commas where semicolons have to stand; save the list with semicolons between the fields");
         }

@@ -68,7 +68,7 @@ fn words_say_what_the_refusal_does() {
         let words = explain(2, &bytes, refusal);
         let first = &words[0];
         match refusal {
-            Refusal::LineShape => {
+            Refusal::NotALine => {
                 shapes += 1;
                 let marks = desk::line_marks(&bytes);
                 let count = format!("the line has {} semicolons;", marks.semicolons);
@@ -88,7 +88,7 @@ fn words_say_what_the_refusal_does() {
                 assert!(field.length > field.most);
                 assert_eq!(field_of(&bytes, refusal), Some(field.number));
             }
-            Refusal::BrokenRule { code } => {
+            Refusal::RuleBroken { code } => {
                 broken += 1;
                 let say = match rules::station_title(code.into()) {
                     "" => format!("rule {code} is broken:"),

@@ -76,13 +76,13 @@ impl Header {
     /// stand for a refused one, which is what `unwrap_or_default` gives.
     pub fn read(record: &[u8]) -> Result<Header, Refusal> {
         let record = record.try_into().map_err(|_| Refusal::RecordLength)?;
-        Header::parse(record).map_err(Refusal::Broken)
+        Header::parse(record).map_err(Refusal::RuleBroken)
     }
 
     /// Writes a header that breaks none of the rules 1 to 14, in the one spelling.
     pub fn write(&self, out: &mut [u8]) -> Result<(), Refusal> {
         let record = out.try_into().map_err(|_| Refusal::BufferLength)?;
-        self.check().map_err(Refusal::Broken)?;
+        self.check().map_err(Refusal::RuleBroken)?;
         self.spell(record);
         Ok(())
     }

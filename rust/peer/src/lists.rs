@@ -21,7 +21,7 @@ pub fn write_line(station: &Station, line: &mut [u8]) -> Result<usize, Refusal> 
     let mut record = [b' '; RECORD_LENGTH];
     station.write(&mut record)?;
     let length = fields_out(&record).map(|field| field.len() + 1).sum();
-    let line = line.get_mut(..length).ok_or(Refusal::LineBuffer)?;
+    let line = line.get_mut(..length).ok_or(Refusal::BufferTooShort)?;
     let mut rest = &mut *line;
     for field in fields_out(&record) {
         let (place, after) = rest.split_at_mut(field.len() + 1);
@@ -35,10 +35,10 @@ pub fn write_line(station: &Station, line: &mut [u8]) -> Result<usize, Refusal> 
 
 /// Reads a station that breaks no rule from a line, its fields in any accepted spelling.
 pub fn read_line(line: &[u8]) -> Result<Station, Refusal> {
-    let fields = line.strip_suffix(&[END]).ok_or(Refusal::LineShape)?;
+    let fields = line.strip_suffix(&[END]).ok_or(Refusal::NotALine)?;
     let semicolons = fields.iter().filter(|&&byte| byte == SEPARATOR).count();
     if fields.contains(&END) || semicolons != STATION_FIELDS.len() - 1 {
-        return Err(Refusal::LineShape);
+        return Err(Refusal::NotALine);
     }
     let mut record = [b' '; RECORD_LENGTH];
     for (index, field) in fields.split(|&byte| byte == SEPARATOR).enumerate() {

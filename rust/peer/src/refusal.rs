@@ -22,13 +22,13 @@ pub enum Refusal {
     /// 8: there is no such field.
     NoSuchField,
     /// 9: a record or typed value breaks a rule, the first of them with this code.
-    Broken(u8),
+    RuleBroken(u8),
     /// 10: the line has not twenty-nine semicolons and one line feed as its last byte.
-    LineShape,
+    NotALine,
     /// 11: a field of the line is longer than its columns.
     FieldTooLong,
     /// 12: the lent buffer is shorter than the line.
-    LineBuffer,
+    BufferTooShort,
 }
 
 impl Refusal {
@@ -43,17 +43,17 @@ impl Refusal {
             Refusal::RecordLength => 6,
             Refusal::BufferLength => 7,
             Refusal::NoSuchField => 8,
-            Refusal::Broken(_) => 9,
-            Refusal::LineShape => 10,
+            Refusal::RuleBroken(_) => 9,
+            Refusal::NotALine => 10,
             Refusal::FieldTooLong => 11,
-            Refusal::LineBuffer => 12,
+            Refusal::BufferTooShort => 12,
         }
     }
 
     /// The code of the first broken rule, 0 with any refusal but 9.
     pub fn code(self) -> u8 {
         match self {
-            Refusal::Broken(code) => code,
+            Refusal::RuleBroken(code) => code,
             _ => 0,
         }
     }
@@ -62,7 +62,7 @@ impl Refusal {
 impl fmt::Display for Refusal {
     fn fmt(&self, f: &mut fmt::Formatter<'_>) -> fmt::Result {
         match self {
-            Refusal::Broken(code) => write!(f, "refused 9, code {code}"),
+            Refusal::RuleBroken(code) => write!(f, "refused 9, code {code}"),
             _ => write!(f, "refused {}", self.number()),
         }
     }

@@ -112,13 +112,13 @@ impl Station {
     /// refused one, which is what `unwrap_or_default` gives.
     pub fn read(record: &[u8]) -> Result<Station, Refusal> {
         let record = record.try_into().map_err(|_| Refusal::RecordLength)?;
-        Station::parse(record).map_err(Refusal::Broken)
+        Station::parse(record).map_err(Refusal::RuleBroken)
     }
 
     /// Writes a station that breaks no rule, in the one spelling.
     pub fn write(&self, out: &mut [u8]) -> Result<(), Refusal> {
         let record = out.try_into().map_err(|_| Refusal::BufferLength)?;
-        self.check().map_err(Refusal::Broken)?;
+        self.check().map_err(Refusal::RuleBroken)?;
         self.spell(record);
         Ok(())
     }
@@ -154,7 +154,7 @@ impl Station {
     }
 
     fn checked(self) -> Result<Station, Refusal> {
-        self.check().map_err(Refusal::Broken)?;
+        self.check().map_err(Refusal::RuleBroken)?;
         Ok(self)
     }
 

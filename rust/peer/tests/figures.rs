@@ -373,14 +373,14 @@ fn setting_changes_one_value() {
     let s = station_s();
     assert_eq!(s.set_power(None), Ok(Station { power: None, ..s }));
     assert_eq!(s.set_power(Some(Tenths(9999))), Ok(Station { power: Some(Tenths(9999)), ..s }));
-    assert_eq!(s.set_power(Some(Tenths(10_000))), Err(Refusal::Broken(15)));
-    assert_eq!(s.set_azimuth(Some(Tenths(3600))), Err(Refusal::Broken(17)));
+    assert_eq!(s.set_power(Some(Tenths(10_000))), Err(Refusal::RuleBroken(15)));
+    assert_eq!(s.set_azimuth(Some(Tenths(3600))), Err(Refusal::RuleBroken(17)));
     assert_eq!(s.set_azimuth(None), Ok(Station { azimuth: None, ..s }));
-    assert_eq!(s.set_elevation(Some(Tenths(-901))), Err(Refusal::Broken(18)));
+    assert_eq!(s.set_elevation(Some(Tenths(-901))), Err(Refusal::RuleBroken(18)));
     assert_eq!(s.set_height(Some(Metres(-999))), Ok(Station { height: Some(Metres(-999)), ..s }));
-    assert_eq!(s.set_ground(Metres(-1)), Err(Refusal::Broken(21)));
+    assert_eq!(s.set_ground(Metres(-1)), Err(Refusal::RuleBroken(21)));
     let broken = Station { ground: Metres(-1), ..s };
-    assert_eq!(broken.set_power(None), Err(Refusal::Broken(21)));
+    assert_eq!(broken.set_power(None), Err(Refusal::RuleBroken(21)));
     assert_eq!(broken.set_ground(Metres(30)), Ok(s));
 }
 
@@ -391,8 +391,8 @@ fn reading_and_writing_refuse_in_order() {
     let mut short = [7; 218];
     assert_eq!(Station::EMPTY.write(&mut short), Err(Refusal::BufferLength));
     let mut out = [7; 219];
-    assert_eq!(Station::EMPTY.write(&mut out), Err(Refusal::Broken(6)));
-    assert_eq!(Header::EMPTY.write(&mut out), Err(Refusal::Broken(3)));
+    assert_eq!(Station::EMPTY.write(&mut out), Err(Refusal::RuleBroken(6)));
+    assert_eq!(Header::EMPTY.write(&mut out), Err(Refusal::RuleBroken(3)));
     assert_eq!((short, out), ([7; 218], [7; 219]));
 }
 
@@ -530,8 +530,8 @@ fn lines_go_out_and_come_back() {
     assert!(line[LINE.len()..].iter().all(|&byte| byte == b'#'));
     assert_eq!(lists::read_line(LINE), Ok(station_s()));
     let short = &mut [b'#'; 300][..LINE.len() - 1];
-    assert_eq!(lists::write_line(&station_s(), short), Err(Refusal::LineBuffer));
-    assert_eq!(lists::write_line(&Station::EMPTY, &mut []), Err(Refusal::Broken(6)));
+    assert_eq!(lists::write_line(&station_s(), short), Err(Refusal::BufferTooShort));
+    assert_eq!(lists::write_line(&Station::EMPTY, &mut []), Err(Refusal::RuleBroken(6)));
 }
 
 #[test]
@@ -540,14 +540,14 @@ fn lines_are_refused_in_order() {
         let line = std::str::from_utf8(LINE).unwrap().replacen(from, to, 1);
         lists::read_line(line.as_bytes())
     };
-    assert_eq!(edited("\n", ""), Err(Refusal::LineShape));
-    assert_eq!(edited("\n", "\n\n"), Err(Refusal::LineShape));
-    assert_eq!(edited(";FB", "FB"), Err(Refusal::LineShape));
-    assert_eq!(edited(";FB", ";;FB"), Err(Refusal::LineShape));
+    assert_eq!(edited("\n", ""), Err(Refusal::NotALine));
+    assert_eq!(edited("\n", "\n\n"), Err(Refusal::NotALine));
+    assert_eq!(edited(";FB", "FB"), Err(Refusal::NotALine));
+    assert_eq!(edited(";FB", ";;FB"), Err(Refusal::NotALine));
     assert_eq!(edited(";FB;", ";FB ;"), Err(Refusal::FieldTooLong));
-    assert_eq!(edited(";FB;", ";F;"), Err(Refusal::Broken(4)));
+    assert_eq!(edited(";FB;", ";F;"), Err(Refusal::RuleBroken(4)));
     assert_eq!(edited("00938.20000;", "938.2;"), Ok(station_s()));
     assert_eq!(edited(";0180;", ";180;"), Ok(station_s()));
     assert_eq!(edited(&" ".repeat(50), ""), Ok(station_s()));
-    assert_eq!(lists::read_line(b""), Err(Refusal::LineShape));
+    assert_eq!(lists::read_line(b""), Err(Refusal::NotALine));
 }

@@ -1,0 +1,62 @@
+-- Real days are taken and others refused, computed from the definitions.
+use mathlib.Core.Path.{refl}
+use Rattle.columns.specs.Sets.{among, isHex, isNarrow, isText, isName, isMail}
+use Rattle.columns.specs.Texts.{skip, trimmed, every, howMany, each, byteGood, same, oneOf, textGood}
+use Rattle.columns.specs.Numbers.{leading, numberFrom, wholeDigits, wholeOf, unsigned, signedOf, spellDigits, spellSigned}
+use Rattle.columns.specs.Decimals.{fractionOf, magnitudeOf, decimalOf, spellMagnitude, spellDecimal}
+use Rattle.columns.specs.Dates.{dateRule, dateIn, dateOf, dayGood, dayOf, dateGood, dayFits, spellDate, spellDay}
+use Rattle.fields.specs.Tenths.{tenthsGood, tenthsOf, tenthsFit, spellTenths}
+use Rattle.fields.specs.Frequencies.{amountGood, unitGood, unitOf, frequencyOf, frequencyFits, unitLetter, spellAmount, spellUnit}
+use Rattle.fields.specs.Distances.{radiusOf, groundOf, heightGood, heightOf, radiusFits, groundFits, heightFits, spellRadius, spellGround, spellHeight}
+use Rattle.fields.specs.Positions.{arcSeconds, arcGood, arcOf, positionGood, positionOf, positionFits, spellArc, spellPosition}
+use Rattle.fields.specs.Emission.{bandwidthGood, detailGood, emissionGood}
+use Rattle.fields.specs.Remarks.{cellGood, installationGood, remarksGood}
+use Rattle.fields.specs.Rows.{_&_}
+use Rattle.basics.specs.Rules.{firstBroken}
+use Rattle.station.specs.Places.{fieldsOf}
+use Rattle.station.specs.Rules.{fieldRules, typedRules}
+use Rattle.station.specs.Between.{roundAntenna, betweenRules}
+use Rattle.station.specs.Values.{stationOf}
+use Rattle.station.specs.Spelling.{stationPieces, spellStation}
+use Rattle.station.specs.Codes.{valueOf, stationCode, typedCode}
+use Rattle.lists.specs.Fields.{trimmedField, paddedField}
+use Rattle.lists.specs.Lines.{lineOf, before, behind, split, lineFields, isLine}
+use Rattle.lists.specs.Lines as lines
+use Rattle.lists.specs.Calls.{lineOutcome, stationInLine}
+use Rattle.header.specs.Places.{headerFields}
+use Rattle.fields.specs.Serials.{serialGood, serialOf}
+use Rattle.header.specs.Values.{headerOf}
+use Rattle.header.specs.Rules.{headerRules}
+use Rattle.header.specs.Codes.{headerValue, headerCode, filedHeaderCode}
+use Rattle.files.specs.Files.{stations, recordAt, withRecord, tooLong, notRecords, placesOf, fieldAt, fieldCount}
+use Rattle.files.specs.Calls.{showOutcome, shownField}
+use Rattle.stations.specs.Stations.{codeAt, referenceAt}
+use Rattle.sheet.specs.Forms.{rowAt, badAt, trailerOf, closed, headAt, fitsForm}
+use Rattle.sheet.specs.Sheets.{twinAt, rowOf, judgedSheet, sheetOf}
+use Rattle.sheet.specs.Replacing.{touched, mendedRow, writes, rowsWritten}
+use Rattle.sheet.specs.Replacing as replacing
+use Rattle.sheet.specs.Calls.{replaceOutcome, replacedSheet, replacedRows}
+use Rattle.basics.specs.Outcomes.{refusal, codeWith, ifDone, firstRefusal}
+use Rattle.station.specs.Calls.{writeOutcome}
+use Rattle.columns.specs.Dates.{dateFits}
+use Rattle.figures.specs.Days.{RealDays}
+
+pub real-days : RealDays
+unfolding among isHex isNarrow isText isName skip trimmed every howMany each byteGood same oneOf leading numberFrom wholeDigits wholeOf unsigned signedOf fractionOf magnitudeOf decimalOf dateRule dateIn dateOf dayGood dayOf tenthsGood tenthsOf amountGood unitGood unitOf frequencyOf radiusOf groundOf heightGood heightOf arcSeconds arcGood arcOf positionGood positionOf bandwidthGood detailGood emissionGood cellGood installationGood remarksGood firstBroken fieldsOf fieldRules roundAntenna betweenRules stationOf valueOf stationCode isMail textGood dateGood serialGood serialOf headerOf headerFields headerRules headerValue headerCode filedHeaderCode stations recordAt withRecord referenceAt codeAt tooLong notRecords placesOf fieldAt fieldCount twinAt rowOf rowAt badAt trailerOf closed judgedSheet sheetOf headAt fitsForm touched mendedRow replacing.mendedSheet writes rowsWritten refusal codeWith ifDone firstRefusal replaceOutcome replacedSheet replacedRows showOutcome shownField frequencyFits dayFits radiusFits groundFits heightFits positionFits tenthsFit typedRules typedCode spellDigits spellMagnitude spellDecimal spellSigned spellDate spellDay spellTenths unitLetter spellAmount spellUnit spellRadius spellGround spellHeight spellArc spellPosition stationPieces spellStation trimmedField paddedField lineOf before behind split lineFields isLine lines.recordOf lineOutcome stationInLine writeOutcome dateFits
+real-days = record {
+  station-takes = refl;
+  station-refuses = refl;
+  header-takes = refl;
+  header-refuses = refl;
+  leap-day = refl;
+  no-day = refl;
+  header-leap-day = refl;
+  header-no-day = refl;
+  typed-leap-day = refl;
+  typed-no-day = refl;
+  typed-request = refl;
+  typed-agreement = refl;
+  typed-header = (refl, refl);
+  not-written = refl;
+  not-listed = (refl, refl);
+}
