@@ -3,3 +3,4 @@ pub mod Unique
 pub mod ShownLaws
 pub mod ReasonLaws
 pub mod UniqueReasons
+pub mod OrderLaws

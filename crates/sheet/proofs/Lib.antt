@@ -10,3 +10,5 @@ pub mod MendLaws
 pub mod CallLaws
 pub mod Demand3
 pub mod Unique
+pub mod EitherOrder
+pub mod AnyOrder
