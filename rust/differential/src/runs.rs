@@ -38,6 +38,9 @@ impl Pool {
     }
 }
 
+/// A record's number, and the record that is to stand there.
+type Call = (usize, Vec<u8>);
+
 /// One file, its sheet and the calls made on them.
 struct Run<'a> {
     comparison: &'a mut Comparison,
@@ -81,6 +84,9 @@ impl Run<'_> {
             if own_sheet {
                 self.judge_afresh();
             }
+        }
+        if own_sheet {
+            self.either_order();
         }
         self.show();
     }
@@ -153,6 +159,39 @@ impl Run<'_> {
         assert_eq!(self.sheet, fresh, "a mended sheet is not the sheet judged afresh");
     }
 
+    /// Several clerks: the same calls in another order, in which those at each number keep theirs, leave the same list and sheet.
+    fn either_order(&mut self) {
+        let size = self.random.pick(&[2, 2, 3, 8]);
+        let calls: Vec<Call> = (0..size).map(|_| self.call()).collect();
+        let others = reordered(self.random, &calls);
+        let left = self.after(&calls);
+        assert_eq!(left, self.after(&others), "calls at different numbers do not come in either order");
+    }
+
+    /// A replacement of any number, one above the last among them, by a record that may have another length.
+    fn call(&mut self) -> Call {
+        let number = self.random.below(self.stations + 2);
+        let mut record = if number == 0 {
+            self.any_header().to_vec()
+        } else {
+            self.pool.station(self.random, &self.references).to_vec()
+        };
+        if self.random.one_in(8) {
+            let length = self.random.pick(&OTHER_LENGTHS);
+            record.resize(length, b' ');
+        }
+        (number, record)
+    }
+
+    /// What calls leave of the list and its sheet.
+    fn after(&mut self, calls: &[Call]) -> (Vec<u8>, Vec<u8>) {
+        let (mut file, mut sheet) = (self.file.clone(), self.sheet.clone());
+        for (number, record) in calls {
+            self.comparison.replace(&mut file, &mut sheet, *number, record);
+        }
+        (file, sheet)
+    }
+
     /// Calls in which one or more of the things that refusals 1 to 6 ask about are wrong.
     fn refused_calls(&mut self) {
         let faults = 1 + self.random.below(63);
@@ -208,6 +247,18 @@ impl Run<'_> {
             }
         }
     }
+}
+
+/// The calls in another order, in which those at each number keep theirs.
+fn reordered(random: &mut Random, calls: &[Call]) -> Vec<Call> {
+    let mut left = calls.to_vec();
+    let mut others = Vec::new();
+    while !left.is_empty() {
+        let number = left[random.below(left.len())].0;
+        let first = left.iter().position(|call| call.0 == number).expect("it was picked from them");
+        others.push(left.remove(first));
+    }
+    others
 }
 
 /// The 13X of a run: one or many, some of them unlike in one byte, some broken.
