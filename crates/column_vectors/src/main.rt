@@ -1,12 +1,12 @@
 // Runs column vectors: each is a letter for the kind of column, three digits for the width, a colon, the bytes and a
 // line feed. Prints for each what the library answers, and the columns that it writes of what it read.
-use columns::dates::Dated;
-use columns::dates::Day;
-use columns::decimals::Format;
-use columns::numbers::Signed;
-use columns::numbers::Whole;
 use columns::sets::Set;
-use fields::positions::Located;
+use days::dates::Dated;
+use days::dates::Day;
+use formats::Format;
+use numerals::Signed;
+use numerals::Whole;
+use positions::Located;
 
 // Writes to standard output.
 fn put(s: &[u8]) {
@@ -15,10 +15,10 @@ fn put(s: &[u8]) {
 
 // Prints a number with its sign.
 fn put_number(v: i64) {
-    if columns::numbers::is_negative(v) {
+    if numerals::is_negative(v) {
         put(b"-");
     }
-    io::print_decimal(1, columns::numbers::magnitude(v));
+    io::print_decimal(1, numerals::magnitude(v));
 }
 
 // Prints columns that were written, or that they were refused.
@@ -43,7 +43,7 @@ fn put_test(passed: bool) {
 
 // A whole number in lent columns.
 fn write_whole(s: &mut [u8], v: u64) {
-    let written = columns::numbers::write_whole(s, v);
+    let written = numerals::write_whole(s, v);
     put_columns(written, s);
 }
 
@@ -56,7 +56,7 @@ fn write_first(space: &mut [u8], n: usize, v: u64) {
 
 // A whole number, and its spelling in columns of the same width.
 fn whole(s: &[u8]) {
-    match columns::numbers::read_whole(s) {
+    match numerals::read_whole(s) {
         Whole::Bad => put(b" bad\n"),
         Whole::Blank => put(b" blank\n"),
         Whole::Filled(v) => {
@@ -71,13 +71,13 @@ fn whole(s: &[u8]) {
 // The four columns of a height.
 fn write_height(v: i64) {
     let mut space = [0u8; 4];
-    let written = columns::numbers::write_signed(&mut space, v);
+    let written = numerals::write_signed(&mut space, v);
     put_columns(written, &space);
 }
 
 // A whole number with a sign, and its spelling in four columns.
 fn signed(s: &[u8], only_written: bool) {
-    match columns::numbers::read_signed(s) {
+    match numerals::read_signed(s) {
         Signed::Bad => put(b" bad\n"),
         Signed::Blank => put(b" blank\n"),
         Signed::Filled(v) => {
@@ -92,13 +92,13 @@ fn signed(s: &[u8], only_written: bool) {
 
 // A decimal in lent columns.
 fn write_decimal(format: Format, s: &mut [u8], v: i64) {
-    let written = columns::decimals::write_decimal(format, s, v);
+    let written = formats::write_decimal(format, s, v);
     put_columns(written, s);
 }
 
 // A decimal in the columns of its format, the first of a lent space.
 fn write_format(format: Format, space: &mut [u8], v: i64) {
-    let n = columns::decimals::decimal_width(format);
+    let n = formats::decimal_width(format);
     if n <= space.len() {
         write_decimal(format, &mut space[0..n], v);
     }
@@ -106,7 +106,7 @@ fn write_format(format: Format, space: &mut [u8], v: i64) {
 
 // A decimal, and its spelling.
 fn decimal(format: Format, s: &[u8]) {
-    match columns::decimals::read_decimal(format, s) {
+    match formats::read_decimal(format, s) {
         Signed::Bad => put(b" bad\n"),
         Signed::Blank => put(b" blank\n"),
         Signed::Filled(v) => {
@@ -120,7 +120,7 @@ fn decimal(format: Format, s: &[u8]) {
 
 // A typed number, written as a decimal.
 fn typed(format: Format, s: &[u8]) {
-    match columns::numbers::read_signed(s) {
+    match numerals::read_signed(s) {
         Signed::Bad => put(b" bad\n"),
         Signed::Blank => put(b" blank\n"),
         Signed::Filled(v) => {
@@ -132,7 +132,7 @@ fn typed(format: Format, s: &[u8]) {
 
 // A date, and its spelling.
 fn date(s: &[u8]) {
-    match columns::dates::read_date(s) {
+    match days::dates::read_date(s) {
         Dated::Bad => put(b" bad\n"),
         Dated::Blank => put(b" blank\n"),
         Dated::Filled(d) => {
@@ -143,7 +143,7 @@ fn date(s: &[u8]) {
             put(b" ");
             io::print_decimal(1, d.year as u64);
             let mut space = [0u8; 8];
-            let written = columns::dates::write_day(&mut space, Day::Filled(d));
+            let written = days::dates::write_day(&mut space, Day::Filled(d));
             put_columns(written, &space);
         }
     }
@@ -151,7 +151,7 @@ fn date(s: &[u8]) {
 
 // A position, and its spelling.
 fn position(s: &[u8]) {
-    match fields::positions::read_position(s) {
+    match positions::read_position(s) {
         Located::Bad => put(b" bad\n"),
         Located::Filled(p) => {
             put(b" ");
@@ -159,7 +159,7 @@ fn position(s: &[u8]) {
             put(b" ");
             put_number(p.north);
             let mut space = [0u8; 15];
-            let written = fields::positions::write_position(&mut space, p);
+            let written = positions::write_position(&mut space, p);
             put_columns(written, &space);
         }
     }
@@ -207,14 +207,14 @@ fn typed_decimals(kind: u8, s: &[u8]) -> bool {
 // The kinds that are kept as their bytes.
 fn codes(kind: u8, s: &[u8]) -> bool {
     match kind {
-        b'X' => put_test(fields::codes::is_reference(s)),
-        b'T' => put_test(fields::codes::is_antenna(s)),
-        b'N' => put_test(fields::codes::is_station_name(s)),
-        b'O' => put_test(fields::codes::is_country(s)),
-        b'U' => put_test(fields::codes::is_users(s)),
-        b'K' => put_test(fields::codes::is_class(s)),
-        b'V' => put_test(fields::codes::is_service(s)),
-        b'Q' => put_test(fields::codes::is_polarisation(s)),
+        b'X' => put_test(symbols::is_reference(s)),
+        b'T' => put_test(symbols::is_antenna(s)),
+        b'N' => put_test(symbols::is_station_name(s)),
+        b'O' => put_test(symbols::is_country(s)),
+        b'U' => put_test(symbols::is_users(s)),
+        b'K' => put_test(symbols::is_class(s)),
+        b'V' => put_test(symbols::is_service(s)),
+        b'Q' => put_test(symbols::is_polarisation(s)),
         _ => return false,
     }
     true
@@ -223,8 +223,8 @@ fn codes(kind: u8, s: &[u8]) -> bool {
 // Emissions, remarks, texts and blanks.
 fn texts(kind: u8, s: &[u8]) -> bool {
     match kind {
-        b'M' => put_test(fields::emission::is_emission(s)),
-        b'Z' => put_test(fields::remarks::is_remarks(s)),
+        b'M' => put_test(emissions::is_emission(s)),
+        b'Z' => put_test(remarks::is_remarks(s)),
         b't' => put_test(columns::texts::is_left_text(s, s.len(), Set::Text)),
         b'm' => put_test(columns::texts::is_left_text(s, s.len(), Set::Mail)),
         b'B' => put_test(columns::texts::is_blank(s)),

@@ -1,9 +1,11 @@
 pub mod SetLaws
 pub mod TextLaws
-pub mod CalendarLaws
-pub mod NumberLaws
-pub mod DecimalLaws
-pub mod Signs
-pub mod Spelling
-pub mod RoundTrip
+pub mod AnswerLaws
+pub mod SameLaws
+pub mod LetterLaws
+pub mod ChoiceLaws
+pub mod CountLaws
+pub mod TrimLaws
 pub mod ColumnLaws
+pub mod PlaceLaws
+pub mod Writing

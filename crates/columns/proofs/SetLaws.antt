@@ -1,5 +1,5 @@
 -- A `match` on a byte decides as a set does: one computed test for each run of bytes between two ends, and one for the bytes that are named singly.
-use mathlib.Core.Path.{_≡_, refl, sym, subst}
+use mathlib.Core.Path.{_≡_, refl}
 use mathlib.Core.Logic.{_⊎_, inl, inr}
 use mathlib.Core.Bool.{Bool, true, false, _&&_, _||_, Bool·beq}
 use mathlib.Core.List.{List, [], _∷_}

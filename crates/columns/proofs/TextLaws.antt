@@ -1,6 +1,6 @@
 -- What the tests on texts do at a place of a list.
 use mathlib.Core.Path.{_≡_, refl, sym, ap, _∙_}
-use mathlib.Core.Bool.{Bool, true, false, cond, not, _&&_, _||_, false≢true, and-true, and-false, and-assoc}
+use mathlib.Core.Bool.{Bool, true, false, cond, _&&_, false≢true, and-true, and-false, and-assoc}
 use mathlib.Core.List.{List, [], _∷_, _++_}
 use Prim.Native.Nat.{ℕ, zero, suc, _+_, _-_, _≤_, _<_}
 use native.Mathlib.Omega.{arith}
@@ -8,7 +8,7 @@ use native.Mathlib.Decide.{decLt, ℕ-discrete}
 use native.Mathlib.Nat.{add-zero}
 use native.Mathlib.Numerals.{add-one, sub-one}
 use lib.Arith.{lt-of-le-ne}
-use lib.Dec.{leb, eqb, eqb·suc-suc}
+use lib.Dec.{eqb, eqb·suc-suc}
 use lib.ListN.{length, getD, take, drop, replicate, length-drop, drop-of-length-le, List·getD-eq-default}
 use lib.Seq.{drop-cons, getD-drop, drop-drop, take-all, take-suc, take-length, length-take-le}
 use borrow.Author.Tests.{eq-eqb, ne-eqb}
@@ -206,3 +206,9 @@ same-on a b n h l e q = same-before a b n h l e ∙ rw (eq-eqb (getD b (n - 1) 0
 
 pub same-off : (a b : List ℕ) (n : ℕ) → 0 < n → n ≤ length a → length a ≡ length b → (getD a (n - 1) 0 ≡ getD b (n - 1) 0 → ⊥) → same (take n a) (take n b) ≡ false
 same-off a b n h l e q = same-before a b n h l e ∙ rw (ne-eqb (getD b (n - 1) 0) (getD a (n - 1) 0) (λ f. q (sym f))) (and-false (same (take (n - 1) a) (take (n - 1) b)))
+
+-- spaces are blank
+pub skip-spaces : (n : ℕ) → skip (replicate n 32) ≡ []
+unfolding skip
+skip-spaces zero = refl
+skip-spaces (suc n) = skip-spaces n

@@ -1,5 +1,5 @@
 -- Document 01, "How columns are read": blank, text, and fields whose every place has a rule of its own. A text is its list of bytes.
-use Prim.Native.Nat.{ℕ, zero, suc, _+_, _-_}
+use Prim.Native.Nat.{ℕ, _+_, _-_}
 use Prim.Native.Char.{code}
 use Prim.Native.String.{String}
 use Prim.Native.String as text

@@ -1,8 +1,3 @@
-// One column at a time: byte sets, blank, whole numbers, decimals, text and dates.
-pub mod calendar;
-pub mod dates;
-pub mod decimals;
-pub mod keeping;
-pub mod numbers;
+// One column at a time: sets of bytes, blank, and text.
 pub mod sets;
 pub mod texts;

@@ -2,7 +2,7 @@
 use crate::sets::Set;
 use crate::sets::has;
 ghost use mathlib.Core.Path.{_≡_};
-ghost use mathlib.Core.Bool.{cond};
+ghost use mathlib.Core.Bool.{cond, _||_};
 ghost use mathlib.Core.List.{[], _∷_};
 ghost use Prim.Native.Nat.{_≤_};
 ghost use lib.ListN.{length, getD, take, drop, replicate};
@@ -68,6 +68,16 @@ pub fn equal(a: &[u8], b: &[u8]) -> bool
         left = last;
     }
     true
+}
+
+// One of two texts.
+pub fn is_either(s: &[u8], a: &[u8], b: &[u8]) -> bool
+    ensures { λ r. ⌜ r ≡ (same (now (a .entry)) (now (s .entry)) || same (now (b .entry)) (now (s .entry))) ⌝ }
+{
+    if equal(a, s) {
+        return true;
+    }
+    equal(b, s)
 }
 
 // Text of w bytes of a set, left-justified.

@@ -3,10 +3,10 @@ use Prim.Native.Nat.{ℕ}
 use mathlib.Core.Bool.{cond}
 use lib.Dec.{eqb}
 use lib.IntN.{ℤ}
-use Rattle.fields.specs.declared.tenths.Tenths.{Tenths}
-use Rattle.fields.specs.declared.tenths.Tenths.the-variants as tenths
-use Rattle.fields.specs.declared.distances.Height.{Height}
-use Rattle.fields.specs.declared.distances.Height.the-variants as height
+use Rattle.formats.specs.declared.Tenths.{Tenths}
+use Rattle.formats.specs.declared.Tenths.the-variants as tenths
+use Rattle.distances.specs.declared.Height.{Height}
+use Rattle.distances.specs.declared.Height.the-variants as height
 
 -- A number of tenths: blank where `filled` is 0.
 unfoldable pub tenthsStated : ℕ → ℤ → Tenths

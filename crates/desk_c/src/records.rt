@@ -1,8 +1,8 @@
 // The calls on single records: judged, written in the one spelling, and changed in one value.
 use crate::endings::answer;
-use fields::distances::Height;
-use fields::distances::Metres;
-use fields::tenths::Tenths;
+use distances::Height;
+use distances::Metres;
+use formats::Tenths;
 use header::judging::check_header;
 use reading::judging::check_station;
 use rewriting::changing::change_azimuth;

@@ -10,18 +10,21 @@ use lib.ListN.{length}
 use lib.IntN.{ℤ}
 use borrow.Author.Tests.{eqb-true, leb-true}
 use Rattle.columns.specs.Texts.{bytes, blank, trimmed, every, oneOf, sized}
-use Rattle.columns.specs.Decimals.{decimalWidth}
+use Rattle.decimals.specs.Decimals.{decimalWidth}
 use Rattle.columns.proofs.TextLaws.{and-split}
-use Rattle.columns.proofs.ColumnLaws.{Column, text-column, byte-column, whole-column, day-column, date-column, each-sized, same-sized, one-sized, text-sized, AllSized}
+use Rattle.columns.proofs.ColumnLaws.{Column, text-column, byte-column, each-sized, same-sized, one-sized, text-sized, AllSized}
+use Rattle.numerals.proofs.WholeColumn.{whole-column}
+use Rattle.days.proofs.DayColumns.{day-column, date-column}
 use Rattle.basics.specs.Fields.{at}
-use Rattle.fields.specs.Frequencies.{spellAmount, spellUnit, unitGood, frequencyOf, frequencyFits}
-use Rattle.fields.specs.Emission.{emissionGood}
-use Rattle.fields.specs.Remarks.{remarksGood}
+use Rattle.frequencies.specs.Frequencies.{spellAmount, spellUnit, frequencyFits}
+use Rattle.emissions.specs.Emission.{emissionGood}
+use Rattle.remarks.specs.Remarks.{remarksGood}
 use Rattle.fields.specs.Kinds.{TextRule, places, word, leftText, literal, emission, Kind, amount, unit, byte, choice, text, remarks, date, dateOrBlank, tenths, kilometres, metres, metresOrBlank, position, whole, wholeOrBlank, Meaning, textKeeps, meaning}
-use Rattle.fields.specs.declared.frequencies.Frequency.{Frequency}
-use Rattle.fields.proofs.FieldColumns.{frequency-pair, tenths-column, radius-column, ground-column, height-column}
-use Rattle.fields.proofs.PositionColumn.{position-column}
-use Rattle.fields.proofs.SerialColumn.{serial-column}
+use Rattle.frequencies.proofs.FrequencyColumns.{frequency-pair}
+use Rattle.formats.proofs.TenthsColumn.{tenths-column}
+use Rattle.distances.proofs.DistanceColumns.{radius-column, ground-column, height-column}
+use Rattle.positions.proofs.PositionColumn.{position-column}
+use Rattle.serials.proofs.SerialColumn.{serial-column}
 
 -- What holds of a kind in w columns. A value that fits is spelt in w columns, and a field k of that spelling keeps the rule and says the value;
 -- a field of w columns that keeps the rule says a value that fits. An amount and its unit stand beside one another: `Beside` is what one asks of the

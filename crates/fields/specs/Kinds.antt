@@ -7,23 +7,23 @@ use mathlib.Core.List.{List, [], _∷_}
 use lib.ListN.{replicate}
 use lib.IntN.{ℤ, pos}
 use Rattle.columns.specs.Texts.{bytes, head, blank, trimmed, every, each, byteGood, same, oneOf, sized, textGood}
-use Rattle.columns.specs.Numbers.{wholeOf, wholeFilled, wholeFits, spellWhole}
-use Rattle.columns.specs.Numbers as numbers
-use Rattle.columns.specs.Dates.{dateGood, dateFits, dayGood, dayOf, dayFits, spellDay}
-use Rattle.columns.specs.declared.dates.Day.the-variants as days
+use Rattle.numerals.specs.Numbers.{wholeOf, wholeFilled, wholeFits, spellWhole}
+use Rattle.numerals.specs.Numbers as numbers
+use Rattle.days.specs.Dates.{dateGood, dateFits, dayGood, dayOf, dayFits, spellDay}
+use Rattle.days.specs.declared.dates.Day.the-variants as days
 use Rattle.basics.specs.Fields.{at}
-use Rattle.fields.specs.Frequencies.{aboveZero, amountGood, unitGood, frequencyOf, frequencyFits, spellAmount, spellUnit}
-use Rattle.fields.specs.Tenths.{anyNumber, tenthsGood, tenthsOf, tenthsFit, spellTenths}
-use Rattle.fields.specs.Distances.{radiusOf, radiusFits, spellRadius, groundOf, groundFits, spellGround, heightRange, heightGood, heightOf, heightFits, spellHeight}
-use Rattle.fields.specs.Positions.{positionGood, positionOf, positionFits, spellPosition}
-use Rattle.fields.specs.Emission.{emissionGood}
-use Rattle.fields.specs.Remarks.{remarksGood}
-use Rattle.fields.specs.Serials.{serialGood, serialOf, serialFits, spellSerial}
-use Rattle.fields.specs.declared.frequencies.Frequency.{Frequency}
-use Rattle.fields.specs.declared.frequencies.Frequency.the-variants as frequencies
-use Rattle.fields.specs.declared.tenths.Tenths.the-variants as decimals
-use Rattle.fields.specs.declared.distances.Height.the-variants as heights
-use Rattle.fields.specs.declared.serials.Serial.the-variants as serials
+use Rattle.frequencies.specs.Frequencies.{aboveZero, amountGood, unitGood, frequencyOf, frequencyFits, spellAmount, spellUnit}
+use Rattle.formats.specs.Tenths.{anyNumber, tenthsGood, tenthsOf, tenthsFit, spellTenths}
+use Rattle.distances.specs.Distances.{radiusOf, radiusFits, spellRadius, groundOf, groundFits, spellGround, heightRange, heightGood, heightOf, heightFits, spellHeight}
+use Rattle.positions.specs.Positions.{positionGood, positionOf, positionFits, spellPosition}
+use Rattle.emissions.specs.Emission.{emissionGood}
+use Rattle.remarks.specs.Remarks.{remarksGood}
+use Rattle.serials.specs.Serials.{serialGood, serialOf, serialFits, spellSerial}
+use Rattle.frequencies.specs.declared.Frequency.{Frequency}
+use Rattle.frequencies.specs.declared.Frequency.the-variants as frequencies
+use Rattle.formats.specs.declared.Tenths.the-variants as decimals
+use Rattle.distances.specs.declared.Height.the-variants as heights
+use Rattle.serials.specs.declared.Serial.the-variants as serials
 
 -- The rules of texts that are all spaces in an empty record.
 pub data TextRule : Type 0 where

@@ -1,10 +1,3 @@
-pub mod Frequencies
-pub mod Tenths
-pub mod Distances
-pub mod Positions
-pub mod Emission
-pub mod Remarks
-pub mod Serials
 pub mod Kinds
 pub mod Rows
 pub mod Table

@@ -7,10 +7,10 @@ use lib.ListN.{replicate}
 use lib.IntN.{ℤ}
 use Rattle.columns.specs.Sets.{is, between, among, isDigit, isUpper, isNarrow, isName}
 use Rattle.columns.specs.Texts.{exactly}
-use Rattle.columns.specs.declared.decimals.Format.{Format}
-use Rattle.columns.specs.declared.decimals.Format.the-variants as format
+use Rattle.formats.specs.declared.Format.{Format}
+use Rattle.formats.specs.declared.Format.the-variants as format
 use Rattle.basics.specs.Fields.{tilesFrom}
-use Rattle.fields.specs.Tenths.{anyNumber, upTo}
+use Rattle.formats.specs.Tenths.{anyNumber, upTo}
 use Rattle.fields.specs.Kinds.{signed, unsigned, amount, unit, byte, choice, text, places, word, emission, remarks, dateOrBlank, tenths, kilometres, metres, metresOrBlank, position, Meaning}
 use Rattle.fields.specs.Rows.{Row, field, meant, rowBehind, placesOf}
 

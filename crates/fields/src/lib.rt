@@ -1,9 +1,1 @@
-// The kinds of field of stations and headers: the values that their columns state, each with its unit.
-pub mod codes;
-pub mod distances;
-pub mod emission;
-pub mod frequencies;
-pub mod positions;
-pub mod remarks;
-pub mod serials;
-pub mod tenths;
+// The kinds of field of stations and headers, tables of fields, and the station's table: see specs/.

@@ -2,15 +2,15 @@
 use mathlib.Core.Path.{refl}
 use Rattle.columns.specs.Sets.{among, isHex, isNarrow, isText, isName}
 use Rattle.columns.specs.Texts.{skip, trimmed, every, howMany, each, byteGood, same, oneOf}
-use Rattle.columns.specs.Numbers.{leading, numberFrom, wholeDigits, wholeOf, unsigned, signedOf}
-use Rattle.columns.specs.Decimals.{fractionOf, magnitudeOf, decimalOf}
-use Rattle.columns.specs.Dates.{dateRule, dateIn, dateOf, dayGood, dayOf}
-use Rattle.fields.specs.Tenths.{tenthsGood, tenthsOf}
-use Rattle.fields.specs.Frequencies.{amountGood, unitGood, unitOf, frequencyOf}
-use Rattle.fields.specs.Distances.{radiusOf, groundOf, heightGood, heightOf}
-use Rattle.fields.specs.Positions.{arcSeconds, arcGood, arcOf, positionGood, positionOf}
-use Rattle.fields.specs.Emission.{bandwidthGood, detailGood, emissionGood}
-use Rattle.fields.specs.Remarks.{cellGood, installationGood, remarksGood}
+use Rattle.numerals.specs.Numbers.{leading, numberFrom, wholeDigits, wholeOf, unsigned, signedOf}
+use Rattle.decimals.specs.Decimals.{fractionOf, magnitudeOf, decimalOf}
+use Rattle.days.specs.Dates.{dateRule, dateIn, dateOf, dayGood, dayOf}
+use Rattle.formats.specs.Tenths.{tenthsGood, tenthsOf}
+use Rattle.frequencies.specs.Frequencies.{amountGood, unitGood, unitOf, frequencyOf}
+use Rattle.distances.specs.Distances.{radiusOf, groundOf, heightGood, heightOf}
+use Rattle.positions.specs.Positions.{arcSeconds, arcGood, arcOf, positionGood, positionOf}
+use Rattle.emissions.specs.Emission.{bandwidthGood, detailGood, emissionGood}
+use Rattle.remarks.specs.Remarks.{cellGood, installationGood, remarksGood}
 use Rattle.fields.specs.Rows.{_&_}
 use Rattle.basics.specs.Rules.{firstBroken}
 use Rattle.station.specs.Places.{fieldsOf}

@@ -2,15 +2,15 @@
 use mathlib.Core.Path.{refl}
 use Rattle.columns.specs.Sets.{among, isHex, isNarrow, isText, isName, isMail}
 use Rattle.columns.specs.Texts.{skip, trimmed, every, howMany, each, byteGood, same, oneOf, textGood}
-use Rattle.columns.specs.Numbers.{leading, numberFrom, wholeDigits, wholeOf, unsigned, signedOf, spellDigits, spellSigned}
-use Rattle.columns.specs.Decimals.{fractionOf, magnitudeOf, decimalOf, spellMagnitude, spellDecimal}
-use Rattle.columns.specs.Dates.{dateRule, dateIn, dateOf, dayGood, dayOf, dateGood, dayFits, spellDate, spellDay}
-use Rattle.fields.specs.Tenths.{tenthsGood, tenthsOf, tenthsFit, spellTenths}
-use Rattle.fields.specs.Frequencies.{amountGood, unitGood, unitOf, frequencyOf, frequencyFits, unitLetter, spellAmount, spellUnit}
-use Rattle.fields.specs.Distances.{radiusOf, groundOf, heightGood, heightOf, radiusFits, groundFits, heightFits, spellRadius, spellGround, spellHeight}
-use Rattle.fields.specs.Positions.{arcSeconds, arcGood, arcOf, positionGood, positionOf, positionFits, spellArc, spellPosition}
-use Rattle.fields.specs.Emission.{bandwidthGood, detailGood, emissionGood}
-use Rattle.fields.specs.Remarks.{cellGood, installationGood, remarksGood}
+use Rattle.numerals.specs.Numbers.{leading, numberFrom, wholeDigits, wholeOf, unsigned, signedOf, spellDigits, spellSigned}
+use Rattle.decimals.specs.Decimals.{fractionOf, magnitudeOf, decimalOf, spellMagnitude, spellDecimal}
+use Rattle.days.specs.Dates.{dateRule, dateIn, dateOf, dayGood, dayOf, dateGood, dayFits, spellDate, spellDay}
+use Rattle.formats.specs.Tenths.{tenthsGood, tenthsOf, tenthsFit, spellTenths}
+use Rattle.frequencies.specs.Frequencies.{amountGood, unitGood, unitOf, frequencyOf, frequencyFits, unitLetter, spellAmount, spellUnit}
+use Rattle.distances.specs.Distances.{radiusOf, groundOf, heightGood, heightOf, radiusFits, groundFits, heightFits, spellRadius, spellGround, spellHeight}
+use Rattle.positions.specs.Positions.{arcSeconds, arcGood, arcOf, positionGood, positionOf, positionFits, spellArc, spellPosition}
+use Rattle.emissions.specs.Emission.{bandwidthGood, detailGood, emissionGood}
+use Rattle.remarks.specs.Remarks.{cellGood, installationGood, remarksGood}
 use Rattle.fields.specs.Rows.{_&_}
 use Rattle.basics.specs.Rules.{firstBroken}
 use Rattle.station.specs.Places.{fieldsOf}
@@ -24,7 +24,7 @@ use Rattle.lists.specs.Lines.{lineOf, before, behind, split, lineFields, isLine
 use Rattle.lists.specs.Lines as lines
 use Rattle.lists.specs.Calls.{lineOutcome, stationInLine}
 use Rattle.header.specs.Places.{headerFields}
-use Rattle.fields.specs.Serials.{serialGood, serialOf}
+use Rattle.serials.specs.Serials.{serialGood, serialOf}
 use Rattle.header.specs.Values.{headerOf}
 use Rattle.header.specs.Rules.{headerRules}
 use Rattle.header.specs.Codes.{headerValue, headerCode, filedHeaderCode}

@@ -6,7 +6,7 @@ use mathlib.Core.Bool.{true, false}
 use mathlib.Core.List.{List, [], _∷_, _++_, map}
 use lib.ListN.{length, replicate}
 use Rattle.columns.specs.Texts.{bytes}
-use Rattle.columns.specs.Dates.{dayGood, dateGood, dateFits}
+use Rattle.days.specs.Dates.{dayGood, dateGood, dateFits}
 use Rattle.basics.specs.Outcomes.{refusal, codeWith}
 use Rattle.station.specs.Codes.{stationCode, typedCode}
 use Rattle.station.specs.Calls.{writeOutcome}

@@ -6,12 +6,12 @@ use mathlib.Core.Bool.{cond}
 use mathlib.Core.List.{List, [], _∷_}
 use lib.Dec.{eqb}
 use lib.IntN.{ℤ, pos, negℤ}
-use Rattle.fields.specs.declared.frequencies.Frequency.{Frequency}
-use Rattle.fields.specs.declared.frequencies.Frequency.the-variants as frequency
-use Rattle.fields.specs.declared.tenths.Tenths.{Tenths}
-use Rattle.fields.specs.declared.tenths.Tenths.the-variants as tenths
-use Rattle.fields.specs.declared.distances.Height.{Height}
-use Rattle.fields.specs.declared.distances.Height.the-variants as height
+use Rattle.frequencies.specs.declared.Frequency.{Frequency}
+use Rattle.frequencies.specs.declared.Frequency.the-variants as frequency
+use Rattle.formats.specs.declared.Tenths.{Tenths}
+use Rattle.formats.specs.declared.Tenths.the-variants as tenths
+use Rattle.distances.specs.declared.Height.{Height}
+use Rattle.distances.specs.declared.Height.the-variants as height
 use Rattle.station.specs.Codes.{stationCode, valueOf}
 use Rattle.station.specs.declared.Station.{Station}
 use Rattle.figures.specs.Samples.{sWith}

@@ -6,16 +6,16 @@ use mathlib.Core.Path.{_≡_}
 use mathlib.Core.List.{List, [], _∷_, map}
 use lib.IntN.{pos, negℤ}
 use lib.ListN.{set, replicate}
-use Rattle.columns.specs.declared.dates.Day.{Day}
-use Rattle.columns.specs.declared.dates.Day.the-variants as day
-use Rattle.fields.specs.declared.frequencies.Frequency.{Frequency}
-use Rattle.fields.specs.declared.frequencies.Frequency.the-variants as frequency
-use Rattle.fields.specs.declared.frequencies.Hertz.the-variants as hertz
-use Rattle.fields.specs.declared.tenths.Tenths.{Tenths}
-use Rattle.fields.specs.declared.tenths.Tenths.the-variants as tenths
-use Rattle.fields.specs.declared.distances.Kilometres.{Kilometres}
-use Rattle.fields.specs.declared.distances.Height.the-variants as height
-use Rattle.fields.specs.declared.positions.Position.{Position}
+use Rattle.days.specs.declared.dates.Day.{Day}
+use Rattle.days.specs.declared.dates.Day.the-variants as day
+use Rattle.frequencies.specs.declared.Frequency.{Frequency}
+use Rattle.frequencies.specs.declared.Frequency.the-variants as frequency
+use Rattle.frequencies.specs.declared.Hertz.the-variants as hertz
+use Rattle.formats.specs.declared.Tenths.{Tenths}
+use Rattle.formats.specs.declared.Tenths.the-variants as tenths
+use Rattle.distances.specs.declared.Kilometres.{Kilometres}
+use Rattle.distances.specs.declared.Height.the-variants as height
+use Rattle.positions.specs.declared.Position.{Position}
 use Rattle.basics.specs.Outcomes.{refusal, codeWith}
 use Rattle.basics.specs.declared.Outcome.{Outcome}
 use Rattle.station.specs.Values.{emptyStation}

@@ -4,7 +4,7 @@ use mathlib.Core.List.{List}
 use mathlib.Core.Bool.{true}
 use Prim.Native.Nat.{ℕ}
 use lib.ListN.{length}
-use Rattle.columns.specs.Dates.{dateFits}
+use Rattle.days.specs.Dates.{dateFits}
 use Rattle.fields.proofs.TripLaws.{spelt-kept, spelt-back}
 use Rattle.fields.proofs.TripLaws as trip
 use Rattle.basics.specs.Fields.{recordLength}

@@ -1,6 +1,6 @@
 // A header as typed values.
-use columns::dates::Day;
-use fields::serials::Serial;
+use days::dates::Day;
+use serials::Serial;
 
 pub mod judging;
 pub mod places;

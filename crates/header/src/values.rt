@@ -1,18 +1,18 @@
 // The values of single fields, as the header's rules take them.
-use columns::dates::Dated;
-use columns::dates::Day;
-use columns::dates::is_date;
-use columns::dates::read_date;
-use columns::numbers::Whole;
-use columns::numbers::fits_whole;
-use columns::numbers::read_whole;
-use fields::serials::Serial;
+use days::dates::Dated;
+use days::dates::Day;
+use days::dates::is_date;
+use days::dates::read_date;
+use numerals::Whole;
+use numerals::fits_whole;
+use numerals::read_whole;
+use serials::Serial;
 ghost use mathlib.Core.Path.{_≡_};
 ghost use Rattle.columns.specs.Sets.{is};
 ghost use Rattle.columns.specs.Texts.{byteGood};
-ghost use Rattle.columns.specs.Numbers.{wholeOf, wholeFilled, amount};
-ghost use Rattle.columns.specs.Dates.{dateGood, dateFits};
-ghost use Rattle.fields.specs.Serials.{serialGood, serialOf, serialFits};
+ghost use Rattle.numerals.specs.Numbers.{wholeOf, wholeFilled, amount};
+ghost use Rattle.days.specs.Dates.{dateGood, dateFits};
+ghost use Rattle.serials.specs.Serials.{serialGood, serialOf, serialFits};
 
 // A whole number is there.
 pub(crate) fn is_whole(s: &[u8]) -> bool

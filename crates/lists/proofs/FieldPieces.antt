@@ -12,30 +12,31 @@ use lib.IntN.{ℤ, pos, negsuc, natAbs}
 use borrow.Author.Tests.{eqb-true}
 use Rattle.columns.specs.Sets.{is}
 use Rattle.columns.specs.Texts.{bytes, head, every, each, same, oneOf}
-use Rattle.columns.specs.Numbers.{spellDigits, spellWhole, spellSigned, isNegative}
-use Rattle.columns.specs.Decimals.{spellMagnitude, spellDecimal, decimalWidth}
-use Rattle.columns.specs.Dates.{spellDate, spellDay}
-use Rattle.columns.specs.declared.dates.Day.{Day}
-use Rattle.columns.specs.declared.dates.Day.the-variants as day
+use Rattle.numerals.specs.Numbers.{spellDigits, spellWhole, spellSigned, isNegative}
+use Rattle.decimals.specs.Decimals.{spellMagnitude, spellDecimal, decimalWidth}
+use Rattle.days.specs.Dates.{spellDate, spellDay}
+use Rattle.days.specs.declared.dates.Day.{Day}
+use Rattle.days.specs.declared.dates.Day.the-variants as day
 use Rattle.columns.proofs.TextLaws.{and-split, and-both}
-use Rattle.columns.proofs.RoundTrip.{spelled-length, decimal-length}
+use Rattle.numerals.proofs.RoundTrip.{spelled-length}
+use Rattle.decimals.proofs.DecimalTrip.{decimal-length}
 use Rattle.columns.proofs.ColumnLaws.{either}
-use Rattle.fields.specs.Tenths.{spellTenths}
-use Rattle.fields.specs.Frequencies.{spellAmount, spellUnit, unitLetter}
-use Rattle.fields.specs.Distances.{spellRadius, spellGround, spellHeight}
-use Rattle.fields.specs.Positions.{positionFits, spellArc, spellPosition}
-use Rattle.fields.specs.declared.tenths.Tenths.{Tenths}
-use Rattle.fields.specs.declared.tenths.Tenths.the-variants as tenths
-use Rattle.fields.specs.declared.frequencies.Hertz.{Hertz}
-use Rattle.fields.specs.declared.frequencies.Hertz.the-variants as hertz
-use Rattle.fields.specs.declared.frequencies.Frequency.{Frequency}
-use Rattle.fields.specs.declared.frequencies.Frequency.the-variants as frequency
-use Rattle.fields.specs.declared.distances.Kilometres.{Kilometres}
-use Rattle.fields.specs.declared.distances.Metres.{Metres}
-use Rattle.fields.specs.declared.distances.Height.{Height}
-use Rattle.fields.specs.declared.distances.Height.the-variants as height
-use Rattle.fields.specs.declared.positions.Position.{Position}
-use Rattle.fields.proofs.PositionColumn.{position-column}
+use Rattle.formats.specs.Tenths.{spellTenths}
+use Rattle.frequencies.specs.Frequencies.{spellAmount, spellUnit, unitLetter}
+use Rattle.distances.specs.Distances.{spellRadius, spellGround, spellHeight}
+use Rattle.positions.specs.Positions.{positionFits, spellArc, spellPosition}
+use Rattle.formats.specs.declared.Tenths.{Tenths}
+use Rattle.formats.specs.declared.Tenths.the-variants as tenths
+use Rattle.frequencies.specs.declared.Hertz.{Hertz}
+use Rattle.frequencies.specs.declared.Hertz.the-variants as hertz
+use Rattle.frequencies.specs.declared.Frequency.{Frequency}
+use Rattle.frequencies.specs.declared.Frequency.the-variants as frequency
+use Rattle.distances.specs.declared.Kilometres.{Kilometres}
+use Rattle.distances.specs.declared.Metres.{Metres}
+use Rattle.distances.specs.declared.Height.{Height}
+use Rattle.distances.specs.declared.Height.the-variants as height
+use Rattle.positions.specs.declared.Position.{Position}
+use Rattle.positions.proofs.PositionColumn.{position-column}
 use Rattle.lists.specs.declared.Side.{Side}
 use Rattle.lists.specs.declared.Side.the-variants as side
 use Rattle.lists.proofs.PadLaws.{spaces-stand, head-stands, one-stands}

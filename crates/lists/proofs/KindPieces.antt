@@ -6,7 +6,7 @@ use Prim.Native.Nat.{ℕ}
 use lib.ListN.{length}
 use borrow.Author.Tests.{eqb-true}
 use Rattle.columns.specs.Texts.{blank, trimmed, every, sized}
-use Rattle.columns.specs.Decimals.{decimalWidth}
+use Rattle.decimals.specs.Decimals.{decimalWidth}
 use Rattle.columns.proofs.TextLaws.{and-split}
 use Rattle.fields.specs.Kinds.{TextRule, places, word, leftText, literal, emission, Kind, amount, unit, byte, choice, text, remarks, date, dateOrBlank, tenths, kilometres, metres, metresOrBlank, position, whole, wholeOrBlank, textKeeps, meaning}
 use Rattle.fields.specs.Rows.{Row, Values, placesOf, fitsOf, speltOf}

@@ -11,7 +11,7 @@ use borrow.Author.Tests.{eqb-true}
 use Rattle.columns.specs.Sets.{is}
 use Rattle.columns.specs.Texts.{head, ended, skip, blank, trimmed}
 use Rattle.columns.proofs.TextLaws.{cond-case}
-use Rattle.columns.proofs.ColumnLaws.{skip-spaces}
+use Rattle.columns.proofs.TextLaws.{skip-spaces}
 use Rattle.lists.specs.Fields.{trimmedField, missing, paddedField}
 use Rattle.lists.specs.declared.Side.{Side}
 use Rattle.lists.specs.declared.Side.the-variants as side

@@ -9,9 +9,9 @@ use lib.ListN.{length, replicate}
 use borrow.Author.Tests.{ne-eqb, le-leb}
 use Rattle.columns.specs.Sets.{is, isDigit}
 use Rattle.columns.specs.Texts.{skip, blank, trimmed, every}
-use Rattle.columns.specs.Numbers.{spellDigits}
+use Rattle.numerals.specs.Numbers.{spellDigits}
 use Rattle.columns.proofs.TextLaws.{and-split, and-both, cond-case}
-use Rattle.columns.proofs.RoundTrip.{digit-is}
+use Rattle.numerals.proofs.RoundTrip.{digit-is}
 use Rattle.basics.proofs.FieldLaws.{Wide}
 use Rattle.lists.specs.Fields.{trimmedField, trimmedFields, paddedFields, noneLonger}
 use Rattle.lists.specs.declared.Side.{Side}

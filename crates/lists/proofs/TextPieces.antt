@@ -11,13 +11,13 @@ use borrow.Author.Tests.{eqb-true, not-true}
 use Rattle.columns.specs.Sets.{is, among, between, isDigit, isText, isHex}
 use Rattle.columns.specs.Texts.{head, skip, blank, trimmed, every, each, oneOf, sized, howMany}
 use Rattle.columns.proofs.TextLaws.{and-split, and-both}
-use Rattle.columns.proofs.NumberLaws.{digit-range}
+use Rattle.numerals.proofs.NumberLaws.{digit-range}
 use Rattle.columns.proofs.ColumnLaws.{either}
-use Rattle.fields.specs.Emission.{bandwidthGood, isModulation, isSignal, isInformation, isDetail, isMultiplex, detailGood, emissionGood}
-use Rattle.fields.specs.Remarks.{cellGood, installationGood, remarksGood}
+use Rattle.emissions.specs.Emission.{bandwidthGood, isModulation, isSignal, isInformation, isDetail, isMultiplex, detailGood, emissionGood}
+use Rattle.remarks.specs.Remarks.{cellGood, installationGood, remarksGood}
 use Rattle.fields.specs.Kinds.{emission}
 use Rattle.fields.proofs.KindLaws.{text-wide, remarks-wide}
-use Rattle.fields.proofs.TrimLaws.{filled-cons}
+use Rattle.columns.proofs.TrimLaws.{filled-cons}
 use Rattle.lists.specs.Fields.{missing}
 use Rattle.lists.specs.declared.Side.the-variants as side
 use Rattle.lists.proofs.PadLaws.{skip-pads, trim-pads, blank-spaces}

@@ -6,7 +6,7 @@ use Prim.Native.Nat.{ℕ, _+_}
 use native.Mathlib.Nat.{add-zero}
 use native.Mathlib.Numerals.{add-one}
 use lib.ListN.{length}
-use Rattle.columns.proofs.RoundTrip.{spelled-length}
+use Rattle.numerals.proofs.RoundTrip.{spelled-length}
 use Rattle.stations.specs.Counting.{rows}
 use Rattle.sheet.specs.Forms.{codeIn}
 use Rattle.sheet.specs.Sheets.{rowIn, twinIn, bad}

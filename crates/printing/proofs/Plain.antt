@@ -6,8 +6,8 @@ use native.Mathlib.Nat.{zero-mul, zero-add}
 use native.Mathlib.Omega.{arith}
 use lib.Dec.{ltb}
 use borrow.Author.Tests.{ltb-true, ltb-false}
-use Rattle.columns.specs.Numbers.{number}
-use Rattle.columns.proofs.RoundTrip.{spelled-says}
+use Rattle.numerals.specs.Numbers.{number}
+use Rattle.numerals.proofs.RoundTrip.{spelled-says}
 use Rattle.printing.specs.Lines.{places, decimal}
 
 module _ (v : ℕ) where

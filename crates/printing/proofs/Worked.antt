@@ -3,7 +3,7 @@ use mathlib.Core.Path.{_≡_, refl}
 use mathlib.Core.List.{List, [], _∷_, _++_}
 use Prim.Native.Nat.{ℕ}
 use Prim.Native.String.{String}
-use Rattle.columns.specs.Numbers.{spellDigits}
+use Rattle.numerals.specs.Numbers.{spellDigits}
 use Rattle.columns.specs.Texts.{bytes, every}
 use Rattle.sheet.specs.Forms.{rowAt, badAt, headAt}
 use Rattle.printing.specs.Lines.{places, decimal, lineFeed, headerLine, stationLine, totalLine, brokenLine}

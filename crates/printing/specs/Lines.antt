@@ -5,7 +5,7 @@ use mathlib.Core.Bool.{cond}
 use mathlib.Core.List.{List, [], _∷_, _++_}
 use lib.Dec.{ltb}
 use Rattle.columns.specs.Texts.{bytes}
-use Rattle.columns.specs.Numbers.{spellWhole}
+use Rattle.numerals.specs.Numbers.{spellWhole}
 
 -- How many digits a number below 1,000 has.
 unfoldable pub places : ℕ → ℕ

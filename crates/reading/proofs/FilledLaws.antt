@@ -5,16 +5,16 @@ use mathlib.Core.List.{List}
 use Prim.Native.Nat.{ℕ}
 use lib.IntN.{ℤ}
 use Rattle.columns.specs.Texts.{ended, skip, blank}
-use Rattle.columns.specs.Numbers.{inSign, hasMinus, unsigned, numberOf, passes, wholeDigits, signedOf}
-use Rattle.columns.specs.Decimals.{magnitudeOf, decimalOf}
-use Rattle.columns.specs.declared.numbers.Whole.{Whole}
-use Rattle.columns.specs.declared.numbers.Whole.the-variants as whole
-use Rattle.columns.specs.declared.numbers.Signed.{Signed}
-use Rattle.columns.specs.declared.numbers.Signed.the-variants as signed
-use Rattle.fields.specs.Frequencies.{aboveZero, amountGood, inUnit, unitOf, frequencyOf, hasFrequency}
-use Rattle.fields.specs.Tenths.{inTenths, tenthsGood, tenthsOf, hasTenths}
-use Rattle.fields.specs.Distances.{heightRange, inMetres, heightGood, heightOf, hasHeight}
-use Rattle.fields.specs.declared.frequencies.Hertz.{Hertz}
+use Rattle.numerals.specs.Numbers.{inSign, hasMinus, unsigned, numberOf, passes, wholeDigits, signedOf}
+use Rattle.decimals.specs.Decimals.{magnitudeOf, decimalOf}
+use Rattle.numerals.specs.declared.Whole.{Whole}
+use Rattle.numerals.specs.declared.Whole.the-variants as whole
+use Rattle.numerals.specs.declared.Signed.{Signed}
+use Rattle.numerals.specs.declared.Signed.the-variants as signed
+use Rattle.frequencies.specs.Frequencies.{aboveZero, amountGood, inUnit, unitOf, frequencyOf, hasFrequency}
+use Rattle.formats.specs.Tenths.{inTenths, tenthsGood, tenthsOf, hasTenths}
+use Rattle.distances.specs.Distances.{heightRange, inMetres, heightGood, heightOf, hasHeight}
+use Rattle.frequencies.specs.declared.Hertz.{Hertz}
 
 -- a number was read
 abbrev given : Signed → Bool

@@ -1,9 +1,9 @@
 // A station's record with one value changed.
 use basics::Outcome;
 use basics::outcomes::is_done;
-use fields::distances::Height;
-use fields::distances::Metres;
-use fields::tenths::Tenths;
+use distances::Height;
+use distances::Metres;
+use formats::Tenths;
 use reading::typed::ReadStation;
 use reading::typed::read_station;
 use station::setting::Settled;

@@ -1,9 +1,9 @@
 -- The promises of the calls on typed stations and on their places leave one answer.
 use mathlib.Core.Path.{_≡_, sym, _∙_}
 use Prim.Native.Nat.{ℕ}
-use Rattle.fields.specs.declared.tenths.Tenths.{Tenths}
-use Rattle.fields.specs.declared.distances.Metres.{Metres}
-use Rattle.fields.specs.declared.distances.Height.{Height}
+use Rattle.formats.specs.declared.Tenths.{Tenths}
+use Rattle.distances.specs.declared.Metres.{Metres}
+use Rattle.distances.specs.declared.Height.{Height}
 use Rattle.basics.specs.declared.Place.{Place}
 use Rattle.station.specs.Setting.{withPower, withAzimuth, withElevation, withHeight, withGround}
 use Rattle.station.specs.Promises.{StationPlaced, StationJudged, StationSet, PowerSet, AzimuthSet, ElevationSet, HeightSet, GroundSet}

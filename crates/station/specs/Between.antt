@@ -6,9 +6,9 @@ use mathlib.Core.List.{List, [], _∷_}
 use lib.Dec.{eqb}
 use Rattle.columns.specs.Sets.{is}
 use Rattle.columns.specs.Texts.{bytes, head, trimmed, same, endsIn}
-use Rattle.fields.specs.Frequencies.{hasFrequency}
-use Rattle.fields.specs.Tenths.{hasTenths}
-use Rattle.fields.specs.Distances.{hasHeight}
+use Rattle.frequencies.specs.Frequencies.{hasFrequency}
+use Rattle.formats.specs.Tenths.{hasTenths}
+use Rattle.distances.specs.Distances.{hasHeight}
 use Rattle.fields.specs.Table.{meantAt}
 use Rattle.station.specs.Members.{valuesOf, valueAt}
 use Rattle.station.specs.declared.Station.{Station}

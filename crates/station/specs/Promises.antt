@@ -1,9 +1,9 @@
 -- What the calls on typed stations and on their places promise, as relations between what they are given and their answer.
 use Prim.Native.Nat.{ℕ}
 use mathlib.Core.Path.{_≡_}
-use Rattle.fields.specs.declared.tenths.Tenths.{Tenths}
-use Rattle.fields.specs.declared.distances.Metres.{Metres}
-use Rattle.fields.specs.declared.distances.Height.{Height}
+use Rattle.formats.specs.declared.Tenths.{Tenths}
+use Rattle.distances.specs.declared.Metres.{Metres}
+use Rattle.distances.specs.declared.Height.{Height}
 use Rattle.basics.specs.Fields.{placeOf}
 use Rattle.basics.specs.declared.Place.{Place}
 use Rattle.station.specs.Places.{stationPlaces}

@@ -2,9 +2,9 @@
 use Prim.Native.Nat.{ℕ, _-_}
 use Rattle.fields.specs.Rows.{putBehind}
 use Rattle.fields.specs.Table.{stationTable, meantAt}
-use Rattle.fields.specs.declared.tenths.Tenths.{Tenths}
-use Rattle.fields.specs.declared.distances.Metres.{Metres}
-use Rattle.fields.specs.declared.distances.Height.{Height}
+use Rattle.formats.specs.declared.Tenths.{Tenths}
+use Rattle.distances.specs.declared.Metres.{Metres}
+use Rattle.distances.specs.declared.Height.{Height}
 use Rattle.station.specs.Members.{valuesOf, stationFrom}
 use Rattle.station.specs.declared.Station.{Station}
 

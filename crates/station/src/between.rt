@@ -1,14 +1,14 @@
 // What the rules between fields ask of single values.
 use columns::texts::equal;
 use columns::texts::trimmed_length;
-use fields::distances::Height;
-use fields::frequencies::Frequency;
-use fields::tenths::Tenths;
+use distances::Height;
+use formats::Tenths;
+use frequencies::Frequency;
 ghost use mathlib.Core.Path.{_≡_};
 ghost use Rattle.columns.specs.Texts.{trimmed, endsIn};
-ghost use Rattle.fields.specs.Distances.{hasHeight};
-ghost use Rattle.fields.specs.Frequencies.{hasFrequency};
-ghost use Rattle.fields.specs.Tenths.{hasTenths};
+ghost use Rattle.distances.specs.Distances.{hasHeight};
+ghost use Rattle.frequencies.specs.Frequencies.{hasFrequency};
+ghost use Rattle.formats.specs.Tenths.{hasTenths};
 ghost use Rattle.station.specs.Between.{never, roundAntenna};
 
 // The two never stand together.

@@ -1,11 +1,11 @@
 // A station as typed values, in five groups of fields that follow one another in the record.
-use columns::dates::Day;
-use fields::distances::Height;
-use fields::distances::Kilometres;
-use fields::distances::Metres;
-use fields::frequencies::Frequency;
-use fields::positions::Position;
-use fields::tenths::Tenths;
+use days::dates::Day;
+use distances::Height;
+use distances::Kilometres;
+use distances::Metres;
+use formats::Tenths;
+use frequencies::Frequency;
+use positions::Position;
 
 pub mod between;
 pub mod places;

@@ -7,9 +7,9 @@ use crate::typed::typed_code;
 use basics::Outcome;
 use basics::outcomes::is_done;
 use basics::outcomes::judged;
-use fields::distances::Height;
-use fields::distances::Metres;
-use fields::tenths::Tenths;
+use distances::Height;
+use distances::Metres;
+use formats::Tenths;
 ghost use Rattle.station.specs.Promises.{StationSet, PowerSet, AzimuthSet, ElevationSet, HeightSet, GroundSet};
 
 // How setting ended, and the station: the changed one, or on a refusal the one that was given.

@@ -2,12 +2,12 @@
 use Prim.Native.Nat.{ℕ}
 use mathlib.Core.List.{List}
 use lib.ListN.{take, drop}
-use Rattle.fields.specs.Frequencies.{frequencyOf}
-use Rattle.fields.specs.Distances.{groundOf}
-use Rattle.fields.specs.Positions.{locatedOf}
-use Rattle.fields.specs.declared.frequencies.Frequency.{Frequency}
-use Rattle.fields.specs.declared.distances.Metres.{Metres}
-use Rattle.fields.specs.declared.positions.Located.{Located}
+use Rattle.frequencies.specs.Frequencies.{frequencyOf}
+use Rattle.distances.specs.Distances.{groundOf}
+use Rattle.positions.specs.Positions.{locatedOf}
+use Rattle.frequencies.specs.declared.Frequency.{Frequency}
+use Rattle.distances.specs.declared.Metres.{Metres}
+use Rattle.positions.specs.declared.Located.{Located}
 use Rattle.basics.specs.Fields.{at}
 use Rattle.station.specs.Places.{fieldsOf}
 use Rattle.station.specs.Codes.{stationCode}

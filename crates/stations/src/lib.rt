@@ -1,11 +1,11 @@
 // What the calls on whole files read of a station, where its record is wholly there.
-use fields::distances::Metres;
-use fields::distances::read_ground;
-use fields::frequencies::Frequency;
-use fields::frequencies::read_frequency;
-use fields::positions::Located;
-use fields::positions::read_position;
+use distances::Metres;
+use distances::read_ground;
 use files::lengths::record_in;
+use frequencies::Frequency;
+use frequencies::read_frequency;
+use positions::Located;
+use positions::read_position;
 use reading::judging::station_code;
 ghost use mathlib.Core.Path.{_≡_};
 ghost use Prim.Native.Nat.{_+_, _*_, _≤_};

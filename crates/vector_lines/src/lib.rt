@@ -1,6 +1,6 @@
 // Vectors one after the other: a letter for the kind, three digits for the width, a colon, the bytes and a line feed.
-use columns::numbers::Whole;
-use columns::numbers::read_whole;
+use numerals::Whole;
+use numerals::read_whole;
 ghost use Prim.Native.Nat.{_<_};
 
 // The width of a vector: its three digits, 0 where they are none.

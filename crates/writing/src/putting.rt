@@ -1,26 +1,26 @@
 // One value that keeps its rule, written into columns of its field's width.
-use columns::decimals::Format;
-use fields::distances::Height;
-use fields::distances::Kilometres;
-use fields::distances::Metres;
-use fields::distances::write_ground;
-use fields::distances::write_height;
-use fields::distances::write_radius;
-use fields::frequencies::Frequency;
-use fields::frequencies::write_amount;
-use fields::frequencies::write_unit;
-use fields::positions::Position;
-use fields::positions::write_position;
-use fields::tenths::Tenths;
-use fields::tenths::write_tenths;
+use distances::Height;
+use distances::Kilometres;
+use distances::Metres;
+use distances::write_ground;
+use distances::write_height;
+use distances::write_radius;
+use formats::Format;
+use formats::Tenths;
+use frequencies::Frequency;
+use frequencies::write_amount;
+use frequencies::write_unit;
+use positions::Position;
+use positions::write_position;
+use tenths::write_tenths;
 ghost use mathlib.Core.Path.{_≡_};
 ghost use mathlib.Core.Bool.{true};
 ghost use lib.ListN.{length};
-ghost use Rattle.columns.specs.Formats.{digitsBefore, digitsAfter, maySign, formatWidth};
-ghost use Rattle.fields.specs.Distances.{radiusFits, spellRadius, groundFits, spellGround, heightFits, spellHeight};
-ghost use Rattle.fields.specs.Frequencies.{frequencyFits, spellAmount, spellUnit};
-ghost use Rattle.fields.specs.Positions.{positionFits, spellPosition};
-ghost use Rattle.fields.specs.Tenths.{tenthsFit, spellTenths};
+ghost use Rattle.formats.specs.Formats.{digitsBefore, digitsAfter, maySign, formatWidth};
+ghost use Rattle.distances.specs.Distances.{radiusFits, spellRadius, groundFits, spellGround, heightFits, spellHeight};
+ghost use Rattle.frequencies.specs.Frequencies.{frequencyFits, spellAmount, spellUnit};
+ghost use Rattle.positions.specs.Positions.{positionFits, spellPosition};
+ghost use Rattle.formats.specs.Tenths.{tenthsFit, spellTenths};
 ghost use Rattle.fields.specs.Table.{rangeOf};
 
 // A frequency without its unit, or blank: 1A or 1Y.

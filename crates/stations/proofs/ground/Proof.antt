@@ -6,7 +6,7 @@ use Prim.Native.Nat.{ℕ}
 use native.Mathlib.Omega.{arith}
 use lib.ListN.{take, drop}
 use Rattle.station.specs.Places.{fieldsOf}
-use Rattle.fields.specs.Distances.{groundOf}
+use Rattle.distances.specs.Distances.{groundOf}
 use Rattle.stations.specs.Stations.{groundAt}
 use Rattle.stations.proofs.StationLaws.{column-there}
 use borrow.Author.Needs.{needs}

@@ -6,7 +6,7 @@ use Prim.Native.Nat.{ℕ}
 use native.Mathlib.Omega.{arith}
 use lib.ListN.{take, drop}
 use Rattle.station.specs.Places.{fieldsOf}
-use Rattle.fields.specs.Positions.{locatedOf}
+use Rattle.positions.specs.Positions.{locatedOf}
 use Rattle.stations.specs.Stations.{positionAt}
 use Rattle.stations.proofs.StationLaws.{column-there}
 use borrow.Author.Needs.{needs}

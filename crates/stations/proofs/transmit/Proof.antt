@@ -6,7 +6,7 @@ use Prim.Native.Nat.{ℕ}
 use native.Mathlib.Omega.{arith}
 use lib.ListN.{take, drop}
 use Rattle.station.specs.Places.{fieldsOf}
-use Rattle.fields.specs.Frequencies.{frequencyOf}
+use Rattle.frequencies.specs.Frequencies.{frequencyOf}
 use Rattle.stations.specs.Stations.{transmitAt}
 use Rattle.stations.proofs.StationLaws.{column-there}
 use borrow.Author.Needs.{needs}

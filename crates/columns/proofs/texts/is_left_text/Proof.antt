@@ -1,5 +1,4 @@
 -- `columns::texts::is_left_text` meets its contract: each return rewrites with the tests on its way.
-use mathlib.Core.Path.{sym}
 use borrow.Author.Tests.{eq-eqb, ne-eqb, not-true, not-false}
 use Rattle.columns.specs.Texts.{textGood}
 use borrow.Author.Needs.{needs}

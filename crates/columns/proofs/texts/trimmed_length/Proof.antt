@@ -1,6 +1,6 @@
 -- `columns::texts::trimmed_length` meets its contract: what was passed from the back is spaces.
-use Prim.Native.Nat.{ℕ, zero, _≤_}
-use mathlib.Core.Path.{_≡_, refl, sym, ap, _∙_}
+use Prim.Native.Nat.{ℕ, _≤_}
+use mathlib.Core.Path.{_≡_, sym, ap, _∙_}
 use lib.ListN.{length, take}
 use lib.Seq.{take-length}
 use Rattle.columns.specs.Texts.{trimmed}

@@ -1,5 +1,5 @@
 -- `header::values::fits_date` meets its contract, by its two cases.
-use Rattle.columns.specs.Dates.{dateFits}
+use Rattle.days.specs.Dates.{dateFits}
 use borrow.Author.Needs.{needs}
 use Rattle.header.proofs.values.fits_date.Statement.{statement}
 use Rattle.header.proofs.values.fits_date.Tie as tie

@@ -1,5 +1,5 @@
 -- `header::values::fits_serial` meets its contract, by its two cases.
-use Rattle.fields.specs.Serials.{serialFits}
+use Rattle.serials.specs.Serials.{serialFits}
 use borrow.Author.Needs.{needs}
 use Rattle.header.proofs.values.fits_serial.Statement.{statement}
 use Rattle.header.proofs.values.fits_serial.Tie as tie

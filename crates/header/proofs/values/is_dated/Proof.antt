@@ -1,5 +1,5 @@
 -- `header::values::is_dated` meets its contract, by the answer of the reader that it calls.
-use Rattle.columns.specs.Dates.{dateGood}
+use Rattle.days.specs.Dates.{dateGood}
 use borrow.Author.Needs.{needs}
 use Rattle.header.proofs.values.is_dated.Statement.{statement}
 use Rattle.header.proofs.values.is_dated.Tie as tie

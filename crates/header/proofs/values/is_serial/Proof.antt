@@ -1,5 +1,5 @@
 -- `header::values::is_serial` meets its contract, by the answer of the reader that it calls.
-use Rattle.fields.specs.Serials.{serialGood}
+use Rattle.serials.specs.Serials.{serialGood}
 use borrow.Author.Needs.{needs}
 use Rattle.header.proofs.values.is_serial.Statement.{statement}
 use Rattle.header.proofs.values.is_serial.Tie as tie

@@ -1,5 +1,5 @@
 -- `header::values::serial_in` meets its contract, by the answer of the reader that it calls.
-use Rattle.fields.specs.Serials.{serialOf}
+use Rattle.serials.specs.Serials.{serialOf}
 use borrow.Author.Needs.{needs}
 use Rattle.header.proofs.values.serial_in.Statement.{statement}
 use Rattle.header.proofs.values.serial_in.Tie as tie

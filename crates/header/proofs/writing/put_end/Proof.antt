@@ -1,7 +1,7 @@
 -- `header::writing::put_end` meets its contract: each field is written after the one before it.
 use mathlib.Core.Path.{_≡_}
 use lib.ListN.{length}
-use Rattle.fields.specs.Serials.{spellSerial}
+use Rattle.serials.specs.Serials.{spellSerial}
 use Rattle.header.specs.Spelling.{headerPieces}
 use Rattle.basics.proofs.WriteLaws.{nothing-yet, then-one, then-text, all-written}
 use borrow.Author.Needs.{needs}

@@ -3,7 +3,7 @@ use mathlib.Core.Path.{_≡_, refl}
 use lib.ListN.{length}
 use Prim.Native.Nat.{ℕ}
 use mathlib.Core.List.{[], _∷_}
-use Rattle.columns.specs.Numbers.{spellWhole}
+use Rattle.numerals.specs.Numbers.{spellWhole}
 use Rattle.header.specs.Spelling.{headerPieces}
 use Rattle.basics.proofs.WriteLaws.{nothing-yet, then-text, then-sized, all-written}
 use borrow.Author.Needs.{needs}

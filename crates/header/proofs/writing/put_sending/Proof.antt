@@ -3,12 +3,12 @@ use mathlib.Core.Path.{_≡_}
 use mathlib.Core.Bool.{true, false≢true}
 use lib.ListN.{length}
 use Prim.Native.Nat.{ℕ}
-use Rattle.columns.specs.Numbers.{spellWhole}
-use Rattle.columns.specs.Dates.{dayFits, spellDay, dateFits}
+use Rattle.numerals.specs.Numbers.{spellWhole}
+use Rattle.days.specs.Dates.{dayFits, spellDay, dateFits}
 use Rattle.header.specs.Spelling.{headerPieces}
 use Rattle.basics.proofs.WriteLaws.{nothing-yet, then-fitting, then-text, then-sized, all-written}
-use Rattle.columns.specs.declared.dates.Day.{Day}
-use Rattle.columns.specs.declared.dates.Day.the-variants as day
+use Rattle.days.specs.declared.dates.Day.{Day}
+use Rattle.days.specs.declared.dates.Day.the-variants as day
 use borrow.Author.Needs.{needs}
 use native.Mathlib.Omega.{arith}
 use Rattle.header.proofs.writing.put_sending.Statement.{statement}

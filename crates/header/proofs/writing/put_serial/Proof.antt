@@ -2,8 +2,8 @@
 use mathlib.Core.Path.{ap, _∙_}
 use Prim.Native.Nat.{ℕ}
 use lib.ListN.{replicate}
-use Rattle.columns.specs.Numbers.{spellWhole}
-use Rattle.fields.specs.Serials.{spellSerial}
+use Rattle.numerals.specs.Numbers.{spellWhole}
+use Rattle.serials.specs.Serials.{spellSerial}
 use borrow.Author.Needs.{needs}
 use Rattle.header.proofs.writing.put_serial.Statement.{statement}
 use Rattle.header.proofs.writing.put_serial.Tie as tie

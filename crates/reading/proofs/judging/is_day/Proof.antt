@@ -1,7 +1,7 @@
 -- `reading::judging::is_day` meets its contract, answer by answer.
 use mathlib.Core.Path.{_≡_, sym, ap, _∙_}
 use mathlib.Core.Bool.{Bool}
-use Rattle.columns.specs.Dates.{dayPasses, dateOf, dayGood}
+use Rattle.days.specs.Dates.{dayPasses, dateOf, dayGood}
 use borrow.Author.Needs.{needs}
 use Rattle.reading.proofs.judging.is_day.Statement.{statement}
 use Rattle.reading.proofs.judging.is_day.Tie as tie

@@ -5,7 +5,7 @@ use Prim.Native.Nat.{ℕ, _-_}
 use lib.ListN.{getD, take, drop}
 use denote.Ref.{now}
 use Rattle.columns.specs.Texts.{blank}
-use Rattle.fields.specs.Tenths.{anyNumber}
+use Rattle.formats.specs.Tenths.{anyNumber}
 use Rattle.fields.specs.Table.{meantAt}
 use Rattle.basics.proofs.RuleLaws.{rule}
 use Rattle.station.specs.Places.{fieldsOf}

@@ -4,10 +4,10 @@ use mathlib.Core.Bool.{true}
 use mathlib.Core.List.{List}
 use Prim.Native.Nat.{ℕ}
 use lib.IntN.{pos}
-use Rattle.fields.specs.Positions.{positionGood, positionOf, locatedOf}
-use Rattle.fields.specs.declared.positions.Position.{Position}
-use Rattle.fields.specs.declared.positions.Located.{Located}
-use Rattle.fields.specs.declared.positions.Located.the-variants as located
+use Rattle.positions.specs.Positions.{positionGood, positionOf, locatedOf}
+use Rattle.positions.specs.declared.Position.{Position}
+use Rattle.positions.specs.declared.Located.{Located}
+use Rattle.positions.specs.declared.Located.the-variants as located
 use borrow.Author.Needs.{needs}
 use Rattle.reading.proofs.typed.position_in.Statement.{statement}
 use Rattle.reading.proofs.typed.position_in.Tie as tie

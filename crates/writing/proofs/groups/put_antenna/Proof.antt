@@ -2,8 +2,8 @@
 use mathlib.Core.Path.{_≡_}
 use mathlib.Core.Bool.{false}
 use lib.ListN.{length, drop}
-use Rattle.fields.specs.Tenths.{spellTenths}
-use Rattle.fields.specs.Distances.{spellGround}
+use Rattle.formats.specs.Tenths.{spellTenths}
+use Rattle.distances.specs.Distances.{spellGround}
 use Rattle.station.specs.Groups.{antennaRules, antennaPieces}
 use Rattle.basics.proofs.WriteLaws.{nothing-yet, then-one, then-text, then-some, all-written}
 use borrow.Author.Needs.{needs}

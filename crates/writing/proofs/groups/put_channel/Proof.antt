@@ -2,7 +2,7 @@
 use mathlib.Core.Path.{_≡_, refl}
 use mathlib.Core.List.{[], _∷_}
 use lib.ListN.{length, drop}
-use Rattle.fields.specs.Frequencies.{spellAmount, spellUnit}
+use Rattle.frequencies.specs.Frequencies.{spellAmount, spellUnit}
 use Rattle.station.specs.Groups.{channelRules, channelPieces}
 use Rattle.basics.proofs.WriteLaws.{nothing-yet, then-one, then-text, then-some, all-written}
 use borrow.Author.Needs.{needs}

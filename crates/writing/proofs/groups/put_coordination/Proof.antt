@@ -1,7 +1,7 @@
 -- `writing::groups::put_coordination` meets its contract: each field is written after the one before it.
 use mathlib.Core.Path.{_≡_}
 use lib.ListN.{length, drop}
-use Rattle.fields.specs.Frequencies.{spellAmount, spellUnit}
+use Rattle.frequencies.specs.Frequencies.{spellAmount, spellUnit}
 use Rattle.station.specs.Groups.{coordinationRules, coordinationPieces}
 use Rattle.basics.proofs.WriteLaws.{nothing-yet, then-one, then-text, then-some, all-written}
 use borrow.Author.Needs.{needs}

@@ -2,7 +2,7 @@
 use mathlib.Core.Path.{_≡_}
 use mathlib.Core.Bool.{true, false}
 use lib.ListN.{length, take, drop}
-use Rattle.fields.specs.Tenths.{spellTenths}
+use Rattle.formats.specs.Tenths.{spellTenths}
 use Rattle.station.specs.Groups.{emissionRules, emissionPieces}
 use Rattle.basics.proofs.WriteLaws.{nothing-yet, then-one, all-written}
 use borrow.Author.Needs.{needs}

@@ -1,8 +1,8 @@
 -- `writing::groups::put_location` meets its contract: each field is written after the one before it.
 use mathlib.Core.Path.{_≡_}
 use lib.ListN.{length, take, drop}
-use Rattle.fields.specs.Distances.{spellRadius, spellHeight}
-use Rattle.fields.specs.Positions.{spellPosition}
+use Rattle.distances.specs.Distances.{spellRadius, spellHeight}
+use Rattle.positions.specs.Positions.{spellPosition}
 use Rattle.station.specs.Groups.{siteRules, sitePieces}
 use Rattle.basics.proofs.WriteLaws.{nothing-yet, then-one, all-written}
 use borrow.Author.Needs.{needs}

@@ -1,7 +1,7 @@
 -- `writing::groups::put_site` meets its contract: each field is written after the one before it.
 use mathlib.Core.Path.{_≡_}
 use lib.ListN.{length, drop}
-use Rattle.columns.specs.Dates.{spellDay}
+use Rattle.days.specs.Dates.{spellDay}
 use Rattle.station.specs.Groups.{siteRules, sitePieces}
 use Rattle.basics.proofs.WriteLaws.{nothing-yet, then-fitting, then-text, then-some, all-written}
 use borrow.Author.Needs.{needs}

@@ -2,7 +2,7 @@
 use mathlib.Core.Path.{_≡_, refl}
 use mathlib.Core.List.{[], _∷_}
 use lib.ListN.{length}
-use Rattle.columns.specs.Dates.{spellDay}
+use Rattle.days.specs.Dates.{spellDay}
 use Rattle.station.specs.Groups.{coordinationRules, coordinationPieces}
 use Rattle.basics.proofs.WriteLaws.{nothing-yet, then-fitting, then-text, all-written}
 use borrow.Author.Needs.{needs}

@@ -1,0 +1,4 @@
+pub mod DecimalLaws
+pub mod DecimalSpelling
+pub mod DecimalTrip
+pub mod DecimalColumn

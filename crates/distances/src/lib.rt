@@ -1,0 +1,145 @@
+// Distances: the radius 4D, and the heights 4Z and 9Y. They are kept apart by their types.
+use columns::texts::write_blank;
+use numerals::Signed;
+use numerals::amount_of;
+use numerals::fits_signed;
+use numerals::fits_whole;
+use numerals::is_negative;
+use numerals::magnitude;
+use numerals::put_whole;
+use numerals::read_signed;
+use numerals::read_whole;
+use numerals::says_number;
+use numerals::write_signed;
+use numerals::write_whole;
+ghost use mathlib.Core.Path.{_≡_};
+ghost use mathlib.Core.Bool.{cond, _&&_};
+ghost use Rattle.columns.specs.Texts.{sized};
+ghost use Rattle.numerals.specs.Numbers.{wholeOf, wholeFilled};
+ghost use Rattle.distances.specs.Distances.{radiusOf, radiusFits, spellRadius, groundOf, groundFits, spellGround, heightGood, heightOf, heightFits, spellHeight};
+
+// A radius, 4D.
+pub struct Kilometres(pub u64);
+
+// A height above sea, 4Z, or above ground, 9Y.
+pub struct Metres(pub i64);
+
+// A height that may be left out, 4Z.
+pub enum Height {
+    Blank,
+    Filled(Metres),
+}
+
+// The rule on the columns of 4D and 9Y: a whole number is there.
+pub fn is_whole_filled(s: &[u8]) -> bool
+    ensures { λ r. ⌜ r ≡ wholeFilled (wholeOf (now (s .entry))) ⌝ }
+{
+    says_number(read_whole(s))
+}
+
+// The radius that its columns say.
+pub fn read_radius(s: &[u8]) -> Kilometres
+    ensures { λ r. ⌜ r ≡ radiusOf (now (s .entry)) ⌝ }
+{
+    Kilometres(amount_of(read_whole(s)))
+}
+
+// Whether a radius has its digits' places in five columns.
+pub fn fits_radius(v: Kilometres) -> bool
+    ensures { λ r. ⌜ r ≡ radiusFits v ⌝ }
+{
+    fits_whole(5, v.0)
+}
+
+// A radius that fits, in five columns; else nothing is written.
+pub fn write_radius(s: &mut [u8], v: Kilometres) -> bool
+    ensures { λ r. ⌜ r ≡ sized 5 (now (s .entry)) && radiusFits v ⌝ }
+    ensures { λ _. ⌜ now (s .exit) ≡ cond (sized 5 (now (s .entry)) && radiusFits v) (spellRadius v) (now (s .entry)) ⌝ }
+{
+    if s.len() != 5 {
+        return false;
+    }
+    write_whole(s, v.0)
+}
+
+// The height above ground that its columns say.
+pub fn read_ground(s: &[u8]) -> Metres
+    ensures { λ r. ⌜ r ≡ groundOf (now (s .entry)) ⌝ }
+{
+    let n = amount_of(read_whole(s));
+    Metres(n as i64)
+}
+
+// Whether a height above ground is not below zero and has its digits' places in four columns.
+pub fn fits_ground(v: Metres) -> bool
+    ensures { λ r. ⌜ r ≡ groundFits v ⌝ }
+{
+    if is_negative(v.0) {
+        return false;
+    }
+    fits_whole(4, magnitude(v.0))
+}
+
+// A height above ground that fits, in four columns; else nothing is written.
+pub fn write_ground(s: &mut [u8], v: Metres) -> bool
+    ensures { λ r. ⌜ r ≡ sized 4 (now (s .entry)) && groundFits v ⌝ }
+    ensures { λ _. ⌜ now (s .exit) ≡ cond (sized 4 (now (s .entry)) && groundFits v) (spellGround v) (now (s .entry)) ⌝ }
+{
+    if s.len() != 4 {
+        return false;
+    }
+    if !fits_ground(v) {
+        return false;
+    }
+    put_whole(s, magnitude(v.0));
+    true
+}
+
+// The rule on the columns of 4Z: blank, or a height from -999 to 9999.
+pub fn is_height(s: &[u8]) -> bool
+    ensures { λ r. ⌜ r ≡ heightGood (now (s .entry)) ⌝ }
+{
+    match read_signed(s) {
+        Signed::Bad => false,
+        Signed::Blank => true,
+        Signed::Filled(z) => fits_signed(4, z),
+    }
+}
+
+// The height above sea that its columns say.
+pub fn read_height(s: &[u8]) -> Height
+    ensures { λ r. ⌜ r ≡ heightOf (now (s .entry)) ⌝ }
+{
+    match read_signed(s) {
+        Signed::Bad => Height::Blank,
+        Signed::Blank => Height::Blank,
+        Signed::Filled(z) => Height::Filled(Metres(z)),
+    }
+}
+
+// Whether a height above sea or its absence can stand.
+pub fn fits_height(v: Height) -> bool
+    ensures { λ r. ⌜ r ≡ heightFits v ⌝ }
+{
+    match v {
+        Height::Blank => true,
+        Height::Filled(m) => fits_signed(4, m.0),
+    }
+}
+
+// A height above sea that fits, or blank, in four columns; else nothing is written.
+pub fn write_height(s: &mut [u8], v: Height) -> bool
+    ensures { λ r. ⌜ r ≡ sized 4 (now (s .entry)) && heightFits v ⌝ }
+    ensures { λ _. ⌜ now (s .exit) ≡ cond (sized 4 (now (s .entry)) && heightFits v) (spellHeight v) (now (s .entry)) ⌝ }
+{
+    if s.len() != 4 {
+        return false;
+    }
+    match v {
+        Height::Blank => {
+            write_blank(s);
+            true
+        }
+        Height::Filled(m) => write_signed(s, m.0),
+    }
+}

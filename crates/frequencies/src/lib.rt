@@ -1,0 +1,148 @@
+// Frequencies: 1A and 1Y with their units.
+use columns::texts::byte;
+use columns::texts::is_blank;
+use columns::texts::write_blank;
+use formats::Format;
+use formats::read_decimal;
+use formats::write_decimal;
+use numerals::Signed;
+use numerals::fits_whole;
+use numerals::magnitude;
+ghost use mathlib.Core.Path.{_≡_};
+ghost use mathlib.Core.Bool.{cond, _&&_};
+ghost use Rattle.columns.specs.Sets.{among};
+ghost use Rattle.columns.specs.Texts.{sized};
+ghost use Rattle.frequencies.specs.Frequencies.{amountGood, unitGood, unitOf, unitLetter, frequencyOf, frequencyFits, spellAmount, spellUnit};
+
+// What a frequency counts 1/100000 of: a kilohertz, a megahertz or a gigahertz.
+pub enum Hertz {
+    Kilo,
+    Mega,
+    Giga,
+}
+
+// A frequency with its unit, or none.
+pub enum Frequency {
+    Blank,
+    Filled(u64, Hertz),
+}
+
+// Whether an amount is blank, or a decimal above zero.
+pub fn is_amount(p: &[u8]) -> bool
+    ensures { λ r. ⌜ r ≡ amountGood (now (p .entry)) ⌝ }
+{
+    match read_decimal(Format::Frequency, p) {
+        Signed::Bad => false,
+        Signed::Blank => true,
+        Signed::Filled(v) => 0 < magnitude(v),
+    }
+}
+
+// Whether a byte is the letter of a unit.
+fn is_letter(c: u8) -> bool
+    ensures { λ r. ⌜ r ≡ among "kMG" c ⌝ }
+{
+    match c {
+        b'k' | b'M' | b'G' => true,
+        _ => false,
+    }
+}
+
+// Whether a unit stands beside its amount: a letter where the amount is filled, else a space.
+pub fn is_unit(p: &[u8], q: &[u8]) -> bool
+    ensures { λ r. ⌜ r ≡ unitGood (now (p .entry)) (now (q .entry)) ⌝ }
+{
+    if q.len() != 1 {
+        return false;
+    }
+    let c = q[0];
+    if is_blank(p) {
+        return c == b' ';
+    }
+    is_letter(c)
+}
+
+// The unit of a letter.
+pub fn unit_of(c: u8) -> Hertz
+    ensures { λ r. ⌜ r ≡ unitOf c ⌝ }
+{
+    if c == b'k' {
+        return Hertz::Kilo;
+    }
+    if c == b'M' {
+        return Hertz::Mega;
+    }
+    Hertz::Giga
+}
+
+// The letter of a unit.
+pub fn unit_letter(u: Hertz) -> u8
+    ensures { λ r. ⌜ r ≡ unitLetter u ⌝ }
+{
+    match u {
+        Hertz::Kilo => b'k',
+        Hertz::Mega => b'M',
+        Hertz::Giga => b'G',
+    }
+}
+
+// What an amount and its unit say; what cannot be read is never taken for a frequency.
+pub fn read_frequency(p: &[u8], q: &[u8]) -> Frequency
+    ensures { λ r. ⌜ r ≡ frequencyOf (now (p .entry)) (now (q .entry)) ⌝ }
+{
+    match read_decimal(Format::Frequency, p) {
+        Signed::Bad => Frequency::Blank,
+        Signed::Blank => Frequency::Blank,
+        Signed::Filled(v) => Frequency::Filled(magnitude(v), unit_of(byte(q, 0))),
+    }
+}
+
+// Whether a frequency or its absence can stand: above zero, and of ten digits at most.
+pub fn fits_frequency(v: Frequency) -> bool
+    ensures { λ r. ⌜ r ≡ frequencyFits v ⌝ }
+{
+    match v {
+        Frequency::Blank => true,
+        Frequency::Filled(n, _) => {
+            if !fits_whole(10, n) {
+                return false;
+            }
+            0 < n
+        }
+    }
+}
+
+// The amount of a frequency that fits, or blank, in eleven columns; else nothing is written.
+pub fn write_amount(s: &mut [u8], v: Frequency) -> bool
+    ensures { λ r. ⌜ r ≡ sized 11 (now (s .entry)) && frequencyFits v ⌝ }
+    ensures { λ _. ⌜ now (s .exit) ≡ cond (sized 11 (now (s .entry)) && frequencyFits v) (spellAmount v) (now (s .entry)) ⌝ }
+{
+    if s.len() != 11 {
+        return false;
+    }
+    if !fits_frequency(v) {
+        return false;
+    }
+    match v {
+        Frequency::Blank => write_blank(s),
+        Frequency::Filled(n, _) => {
+            write_decimal(Format::Frequency, s, n as i64);
+        }
+    }
+    true
+}
+
+// The letter of a frequency's unit, or a space, in one column; in others nothing is written.
+pub fn write_unit(s: &mut [u8], v: Frequency) -> bool
+    ensures { λ r. ⌜ r ≡ sized 1 (now (s .entry)) ⌝ }
+    ensures { λ _. ⌜ now (s .exit) ≡ cond (sized 1 (now (s .entry))) (spellUnit v) (now (s .entry)) ⌝ }
+{
+    if s.len() != 1 {
+        return false;
+    }
+    match v {
+        Frequency::Blank => s[0] = b' ',
+        Frequency::Filled(_, u) => s[0] = unit_letter(u),
+    }
+    true
+}

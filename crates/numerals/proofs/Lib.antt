@@ -1,0 +1,5 @@
+pub mod NumberLaws
+pub mod Signs
+pub mod Spelling
+pub mod RoundTrip
+pub mod WholeColumn

@@ -1,0 +1,207 @@
+// Positions: the coordinates 4C, read and written. Each half has degrees, a letter, minutes and seconds.
+use columns::texts::byte;
+use numerals::Whole;
+use numerals::amount_of;
+use numerals::is_negative;
+use numerals::magnitude;
+use numerals::put_whole;
+use numerals::read_whole;
+use numerals::says_number;
+ghost use mathlib.Core.Path.{_≡_};
+ghost use mathlib.Core.Bool.{false, cond, _&&_, _||_};
+ghost use mathlib.Core.List.{[], _∷_};
+ghost use Prim.Native.Nat.{_+_, _*_, _/_, _%_, _^_, _≤_, _<_};
+ghost use lib.ListN.{length, getD, take, drop};
+ghost use lib.IntN.{natAbs};
+ghost use lib.Dec.{leb, eqb};
+ghost use Rattle.columns.specs.Texts.{sized};
+ghost use Rattle.numerals.specs.Numbers.{wholeOf, wholeFilled, amount, withSign, isNegative, spellDigits};
+ghost use Rattle.positions.specs.Positions.{locatedOf, positionFits, spellPosition};
+
+// A place on the ground in seconds of arc, east and north positive.
+pub struct Position {
+    pub east: i64,
+    pub north: i64,
+}
+
+// A position, read from its columns.
+pub enum Located {
+    Bad,
+    Filled(Position),
+}
+
+// One half of 4C as it stands in its columns.
+struct Arc {
+    degrees: Whole,
+    letter: u8,
+    minutes: Whole,
+    seconds: Whole,
+}
+
+// One half with d columns of degrees.
+fn arc_in(p: &[u8], d: usize) -> Arc
+    requires { ⌜ d + 5 ≤ length (now p) ⌝ }
+    ensures { λ r. ⌜ (r .degrees ≡ wholeOf (take d (now (p .entry))))
+        × (r .letter ≡ getD (now (p .entry)) d 0)
+        × (r .minutes ≡ wholeOf (take 2 (drop (d + 1) (now (p .entry)))))
+        × (r .seconds ≡ wholeOf (take 2 (drop (d + 3) (now (p .entry))))) ⌝ }
+{
+    let degrees = read_whole(&p[0..d]);
+    let letter = byte(p, d);
+    let minutes = read_whole(&p[d + 1..d + 3]);
+    let seconds = read_whole(&p[d + 3..d + 5]);
+    Arc {
+        degrees,
+        letter,
+        minutes,
+        seconds,
+    }
+}
+
+// Whether a whole number was read, and is at most the given one.
+fn is_up_to(most: u64, w: Whole) -> bool
+    ensures { λ r. ⌜ r ≡ wholeFilled w && leb (amount w) most ⌝ }
+{
+    if says_number(w) {
+        amount_of(w) <= most
+    } else {
+        false
+    }
+}
+
+// The seconds of one half in all.
+fn seconds_in(a: Arc) -> u64
+    requires { ⌜ 3600 * amount (a .degrees) + 60 * amount (a .minutes) + amount (a .seconds) < 10 ^ 6 ⌝ }
+    ensures { λ r. ⌜ r ≡ 3600 * amount (a .degrees) + 60 * amount (a .minutes) + amount (a .seconds) ⌝ }
+{
+    let degrees = a.degrees;
+    let minutes = a.minutes;
+    let seconds = a.seconds;
+    3600 * amount_of(degrees) + 60 * amount_of(minutes) + amount_of(seconds)
+}
+
+// Whether a byte is one of two letters.
+fn is_hemisphere(plus: u8, minus: u8, c: u8) -> bool
+    ensures { λ r. ⌜ r ≡ eqb c plus || (eqb c minus || false) ⌝ }
+{
+    if c == plus { true } else { c == minus }
+}
+
+// Whether one half keeps its rule: minutes and seconds at most 59, and no more degrees in all than the given ones.
+fn is_arc(a: Arc, plus: u8, minus: u8, degrees: u64) -> bool
+    requires { ⌜ degrees ≤ 180 ⌝ }
+    ensures { λ r. ⌜ r ≡ (wholeFilled (a .degrees) && leb (amount (a .degrees)) degrees)
+        && (eqb (a .letter) plus || (eqb (a .letter) minus || false))
+        && (wholeFilled (a .minutes) && leb (amount (a .minutes)) 59)
+        && (wholeFilled (a .seconds) && leb (amount (a .seconds)) 59)
+        && leb (3600 * amount (a .degrees) + 60 * amount (a .minutes) + amount (a .seconds)) (3600 * degrees) ⌝ }
+{
+    let whole = a.degrees;
+    if !is_up_to(degrees, whole) {
+        return false;
+    }
+    if !is_hemisphere(plus, minus, a.letter) {
+        return false;
+    }
+    let minutes = a.minutes;
+    if !is_up_to(59, minutes) {
+        return false;
+    }
+    let seconds = a.seconds;
+    if !is_up_to(59, seconds) {
+        return false;
+    }
+    seconds_in(a) <= 3600 * degrees
+}
+
+// v, or -v.
+fn signed_seconds(minus: bool, v: u64) -> i64
+    requires { ⌜ v < 10 ^ 6 ⌝ }
+    ensures { λ r. ⌜ r ≡ withSign minus v ⌝ }
+{
+    let n = v as i64;
+    if minus { 0 - n } else { n }
+}
+
+// The signed count of seconds of one half that keeps its rule.
+fn arc_seconds(a: Arc, minus: u8) -> i64
+    requires { ⌜ 3600 * amount (a .degrees) + 60 * amount (a .minutes) + amount (a .seconds) < 10 ^ 6 ⌝ }
+    ensures { λ r. ⌜ r ≡ withSign (eqb (a .letter) minus) (3600 * amount (a .degrees) + 60 * amount (a .minutes) + amount (a .seconds)) ⌝ }
+{
+    signed_seconds(a.letter == minus, seconds_in(a))
+}
+
+// A position: east or west in eight columns, north or south in seven.
+pub fn read_position(s: &[u8]) -> Located
+    ensures { λ r. ⌜ r ≡ locatedOf (now (s .entry)) ⌝ }
+{
+    if s.len() != 15 {
+        return Located::Bad;
+    }
+    let east = arc_in(&s[0..8], 3);
+    let north = arc_in(&s[8..15], 2);
+    if !is_arc(east, b'E', b'W', 180) {
+        return Located::Bad;
+    }
+    if !is_arc(north, b'N', b'S', 90) {
+        return Located::Bad;
+    }
+    Located::Filled(Position {
+        east: arc_seconds(east, b'W'),
+        north: arc_seconds(north, b'S'),
+    })
+}
+
+// Whether a position is on the ground: at most 180 degrees east or west, and 90 north or south.
+pub fn fits_position(v: Position) -> bool
+    ensures { λ r. ⌜ r ≡ positionFits v ⌝ }
+{
+    if magnitude(v.east) <= 648000 {
+        magnitude(v.north) <= 324000
+    } else {
+        false
+    }
+}
+
+// The letter of one half.
+fn letter_of(plus: u8, minus: u8, v: i64) -> u8
+    ensures { λ r. ⌜ r ≡ cond (isNegative v) minus plus ⌝ }
+{
+    if is_negative(v) { minus } else { plus }
+}
+
+// Writes one half with d columns of degrees, from the last number to the first.
+fn put_arc(s: &mut [u8], d: usize, plus: u8, minus: u8, v: i64)
+    requires { ⌜ length (now s) ≡ d + 5 ⌝ }
+    ensures { λ _. ⌜ now (s .exit) ≡ spellDigits d (natAbs v / 3600) (cond (isNegative v) minus plus ∷ spellDigits 2 (natAbs v / 60 % 60) (spellDigits 2 (natAbs v % 60) [])) ⌝ }
+{
+    let n = magnitude(v);
+    put_whole(&mut s[d + 3..d + 5], n % 60);
+    put_whole(&mut s[d + 1..d + 3], n / 60 % 60);
+    s[d] = letter_of(plus, minus, v);
+    put_whole(&mut s[0..d], n / 3600);
+}
+
+// Writes both halves.
+fn put_arcs(s: &mut [u8], v: Position)
+    requires { ⌜ length (now s) ≡ 15 ⌝ }
+    ensures { λ _. ⌜ now (s .exit) ≡ spellPosition v ⌝ }
+{
+    put_arc(&mut s[0..8], 3, b'E', b'W', v.east);
+    put_arc(&mut s[8..15], 2, b'N', b'S', v.north);
+}
+
+// A position on the ground in fifteen columns; else nothing is written.
+pub fn write_position(s: &mut [u8], v: Position) -> bool
+    ensures { λ r. ⌜ r ≡ sized 15 (now (s .entry)) && positionFits v ⌝ }
+    ensures { λ _. ⌜ now (s .exit) ≡ cond (sized 15 (now (s .entry)) && positionFits v) (spellPosition v) (now (s .entry)) ⌝ }
+{
+    if s.len() != 15 {
+        return false;
+    }
+    if !fits_position(v) {
+        return false;
+    }
+    put_arcs(s, v);
+    true
+}

@@ -1,0 +1,86 @@
+// Powers, angles and gains: 8B1, 9A, 9B and 9G.
+use columns::texts::write_blank;
+use formats::Format;
+use formats::Tenths;
+use formats::decimal_width;
+use formats::fits_decimal;
+use formats::read_decimal;
+use formats::write_decimal;
+use numerals::Signed;
+use numerals::magnitude;
+ghost use mathlib.Core.Path.{_≡_};
+ghost use mathlib.Core.Bool.{cond, _&&_};
+ghost use Rattle.columns.specs.Texts.{sized};
+ghost use Rattle.formats.specs.Formats.{digitsBefore, digitsAfter, maySign, formatWidth};
+ghost use Rattle.formats.specs.Tenths.{tenthsGood, tenthsOf, tenthsFit, spellTenths};
+ghost use Rattle.fields.specs.Table.{rangeOf};
+
+// Whether a number is in its field's range: an azimuth up to 359.9 degrees, an elevation up to 90.0 either way.
+pub fn in_range(format: Format, v: i64) -> bool
+    ensures { λ r. ⌜ r ≡ rangeOf format v ⌝ }
+{
+    match format {
+        Format::Frequency => true,
+        Format::Power => true,
+        Format::Azimuth => magnitude(v) <= 3599,
+        Format::Elevation => magnitude(v) <= 900,
+        Format::Gain => true,
+    }
+}
+
+// Whether a field is blank, or a number of its format and in its range.
+pub fn is_tenths(format: Format, s: &[u8]) -> bool
+    ensures { λ r. ⌜ r ≡ tenthsGood (digitsBefore format) (digitsAfter format) (maySign format) (rangeOf format) (now (s .entry)) ⌝ }
+{
+    match read_decimal(format, s) {
+        Signed::Bad => false,
+        Signed::Blank => true,
+        Signed::Filled(v) => in_range(format, v),
+    }
+}
+
+// What a field says; what cannot be read is never taken for a number.
+pub fn read_tenths(format: Format, s: &[u8]) -> Tenths
+    ensures { λ r. ⌜ r ≡ tenthsOf (digitsBefore format) (digitsAfter format) (maySign format) (now (s .entry)) ⌝ }
+{
+    match read_decimal(format, s) {
+        Signed::Bad => Tenths::Blank,
+        Signed::Blank => Tenths::Blank,
+        Signed::Filled(v) => Tenths::Filled(v),
+    }
+}
+
+// Whether a value or its absence can stand in its field.
+pub fn fits_tenths(format: Format, v: Tenths) -> bool
+    ensures { λ r. ⌜ r ≡ tenthsFit (digitsBefore format) (digitsAfter format) (maySign format) (rangeOf format) v ⌝ }
+{
+    match v {
+        Tenths::Blank => true,
+        Tenths::Filled(z) => {
+            if !fits_decimal(format, z) {
+                return false;
+            }
+            in_range(format, z)
+        }
+    }
+}
+
+// A value that keeps its field's rule, or blank, in columns of the field's width; else nothing is written.
+pub fn write_tenths(format: Format, s: &mut [u8], v: Tenths) -> bool
+    ensures { λ r. ⌜ r ≡ sized (formatWidth format) (now (s .entry)) && tenthsFit (digitsBefore format) (digitsAfter format) (maySign format) (rangeOf format) v ⌝ }
+    ensures { λ _. ⌜ now (s .exit) ≡ cond (sized (formatWidth format) (now (s .entry)) && tenthsFit (digitsBefore format) (digitsAfter format) (maySign format) (rangeOf format) v) (spellTenths (digitsBefore format) (digitsAfter format) (maySign format) v) (now (s .entry)) ⌝ }
+{
+    if s.len() != decimal_width(format) {
+        return false;
+    }
+    if !fits_tenths(format, v) {
+        return false;
+    }
+    match v {
+        Tenths::Blank => write_blank(s),
+        Tenths::Filled(z) => {
+            write_decimal(format, s, z);
+        }
+    }
+    true
+}
