@@ -13,7 +13,7 @@ ghost use lib.ListN.{length};
 ghost use Rattle.columns.specs.Sets.{isDigit};
 ghost use Rattle.columns.specs.Texts.{every, sized};
 ghost use Rattle.numerals.specs.Numbers.{number};
-ghost use Rattle.days.specs.Dates.{within, dateRule, dateIn, dateOf, dayOf, spellDate, dayFits, spellDay};
+ghost use Rattle.days.specs.Dates.{within, dateRule, dateIn, dateOf, dayOf, spellDate, dayGood, dayFits, spellDay};
 
 // A day of the calendar as it is filed.
 pub struct Date {
@@ -98,6 +98,17 @@ pub fn read_date(s: &[u8]) -> Dated
         Dated::Filled(d)
     } else {
         Dated::Bad
+    }
+}
+
+// Whether a date or blank is there.
+pub fn is_day(s: &[u8]) -> bool
+    ensures { λ r. ⌜ r ≡ dayGood (now (s .entry)) ⌝ }
+{
+    match read_date(s) {
+        Dated::Bad => false,
+        Dated::Blank => true,
+        Dated::Filled(_) => true,
     }
 }
 

@@ -8,7 +8,7 @@ use numerals::put_whole;
 use numerals::read_whole;
 use numerals::says_number;
 ghost use mathlib.Core.Path.{_≡_};
-ghost use mathlib.Core.Bool.{false, cond, _&&_, _||_};
+ghost use mathlib.Core.Bool.{true, false, cond, _&&_, _||_};
 ghost use mathlib.Core.List.{[], _∷_};
 ghost use Prim.Native.Nat.{_+_, _*_, _/_, _%_, _^_, _≤_, _<_};
 ghost use lib.ListN.{length, getD, take, drop};
@@ -16,7 +16,7 @@ ghost use lib.IntN.{natAbs};
 ghost use lib.Dec.{leb, eqb};
 ghost use Rattle.columns.specs.Texts.{sized};
 ghost use Rattle.numerals.specs.Numbers.{wholeOf, wholeFilled, amount, withSign, isNegative, spellDigits};
-ghost use Rattle.positions.specs.Positions.{locatedOf, positionFits, spellPosition};
+ghost use Rattle.positions.specs.Positions.{positionGood, positionOf, locatedOf, positionFits, spellPosition};
 
 // A place on the ground in seconds of arc, east and north positive.
 pub struct Position {
@@ -150,6 +150,27 @@ pub fn read_position(s: &[u8]) -> Located
         east: arc_seconds(east, b'W'),
         north: arc_seconds(north, b'S'),
     })
+}
+
+// Whether a position can be read.
+pub fn is_position(s: &[u8]) -> bool
+    ensures { λ r. ⌜ r ≡ positionGood (now (s .entry)) ⌝ }
+{
+    match read_position(s) {
+        Located::Bad => false,
+        Located::Filled(_) => true,
+    }
+}
+
+// The position, where it can be read.
+pub fn position_in(s: &[u8]) -> Position
+    requires { ⌜ positionGood (now s) ≡ true ⌝ }
+    ensures { λ r. ⌜ r ≡ positionOf (now (s .entry)) ⌝ }
+{
+    match read_position(s) {
+        Located::Bad => Position { east: 0, north: 0 },
+        Located::Filled(p) => p,
+    }
 }
 
 // Whether a position is on the ground: at most 180 degrees east or west, and 90 north or south.

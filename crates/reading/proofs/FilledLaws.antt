@@ -1,17 +1,17 @@
 -- Where a field keeps its rule, its value is filled exactly where its columns are not blank.
-use mathlib.Core.Path.{_≡_, refl, sym, ap, _∙_}
+use mathlib.Core.Path.{_≡_, refl, _∙_}
 use mathlib.Core.Bool.{Bool, true, false, cond, not, false≢true}
 use mathlib.Core.List.{List}
 use Prim.Native.Nat.{ℕ}
 use lib.IntN.{ℤ}
-use Rattle.columns.specs.Texts.{ended, skip, blank}
+use Rattle.columns.specs.Texts.{skip, blank}
 use Rattle.numerals.specs.Numbers.{inSign, hasMinus, unsigned, numberOf, passes, wholeDigits, signedOf}
 use Rattle.decimals.specs.Decimals.{magnitudeOf, decimalOf}
 use Rattle.numerals.specs.declared.Whole.{Whole}
 use Rattle.numerals.specs.declared.Whole.the-variants as whole
 use Rattle.numerals.specs.declared.Signed.{Signed}
 use Rattle.numerals.specs.declared.Signed.the-variants as signed
-use Rattle.frequencies.specs.Frequencies.{aboveZero, amountGood, inUnit, unitOf, frequencyOf, hasFrequency}
+use Rattle.frequencies.specs.Frequencies.{aboveZero, amountGood, inUnit, frequencyOf, hasFrequency}
 use Rattle.formats.specs.Tenths.{inTenths, tenthsGood, tenthsOf, hasTenths}
 use Rattle.distances.specs.Distances.{heightRange, inMetres, heightGood, heightOf, hasHeight}
 use Rattle.frequencies.specs.declared.Hertz.{Hertz}

@@ -3,8 +3,7 @@ use mathlib.Core.Path.{_≡_, sym, _∙_}
 use mathlib.Core.List.{List}
 use Prim.Native.Nat.{ℕ}
 use Rattle.basics.specs.declared.Outcome.{Outcome}
-use Rattle.station.specs.declared.Station.{Station}
-use Rattle.reading.specs.Promises.{StationChecked, StationRead, StationEmpty}
+use Rattle.reading.specs.Promises.{StationChecked, StationRead}
 use Rattle.reading.specs.declared.typed.ReadStation.{ReadStation}
 
 -- Two answers of `check_station` to one record are equal.
@@ -14,7 +13,3 @@ one-check r a b p q = p ∙ sym q
 -- Two answers of `read_station` to one record are equal.
 pub one-reading : (r : List ℕ) (a b : ReadStation) → StationRead r a → StationRead r b → a ≡ b
 one-reading r a b p q = λ k. record { outcome = (p .0 ∙ sym (q .0)) k; station = (p .1 ∙ sym (q .1)) k }
-
--- There is one empty station.
-pub one-empty : (a b : Station) → StationEmpty a → StationEmpty b → a ≡ b
-one-empty a b p q = p ∙ sym q

@@ -3,9 +3,7 @@ use Prim.Native.Nat.{ℕ}
 use mathlib.Core.Path.{_≡_}
 use mathlib.Core.List.{List}
 use Rattle.basics.specs.declared.Outcome.{Outcome}
-use Rattle.station.specs.Values.{emptyStation}
 use Rattle.station.specs.Calls.{readOutcome, readStation}
-use Rattle.station.specs.declared.Station.{Station}
 use Rattle.reading.specs.declared.typed.ReadStation.{ReadStation}
 
 -- `check_station` on a record: how reading it ends.
@@ -15,7 +13,3 @@ StationChecked r answer = answer ≡ readOutcome r
 -- `read_station` on a record: how it ends, and the station that it hands back.
 abbrev pub StationRead : List ℕ → ReadStation → Type 0
 StationRead r answer = (answer .outcome ≡ readOutcome r) × (answer .station ≡ readStation r)
-
--- `empty_station`: the station that a refused reading hands back.
-abbrev pub StationEmpty : Station → Type 0
-StationEmpty answer = answer ≡ emptyStation

@@ -4,8 +4,7 @@ use basics::outcomes::judged;
 use basics::rules::first_broken;
 use columns::texts::equal;
 use columns::texts::is_blank;
-use days::dates::Dated;
-use days::dates::read_date;
+use days::dates::is_day;
 use distances::is_height;
 use distances::is_whole_filled;
 use distances::read_radius;
@@ -13,8 +12,7 @@ use emissions::is_emission;
 use formats::Format;
 use frequencies::is_amount;
 use frequencies::is_unit;
-use positions::Located;
-use positions::read_position;
+use positions::is_position;
 use remarks::is_remarks;
 use station::between::is_repeater_name;
 use station::between::is_round;
@@ -35,36 +33,13 @@ use tenths::is_tenths;
 ghost use mathlib.Core.Path.{_≡_};
 ghost use lib.ListN.{length};
 ghost use mathlib.Core.Bool.{not};
-ghost use Rattle.days.specs.Dates.{dayGood};
 ghost use Rattle.columns.specs.Texts.{blank};
-ghost use Rattle.positions.specs.Positions.{positionGood};
 ghost use Rattle.basics.specs.Rules.{All, firstBroken};
 ghost use Rattle.station.specs.Places.{fieldsOf};
 ghost use Rattle.station.specs.Groups.{firstBetween, lastBetween, channelFields, siteFields, emissionFields, antennaFields, coordinationFields};
 ghost use Rattle.station.specs.Codes.{valueOf, stationCode};
 ghost use Rattle.station.specs.Rules.{fieldRules};
 ghost use Rattle.reading.specs.Promises.{StationChecked};
-
-// A date or blank.
-fn is_day(s: &[u8]) -> bool
-    ensures { λ r. ⌜ r ≡ dayGood (now (s .entry)) ⌝ }
-{
-    match read_date(s) {
-        Dated::Bad => false,
-        Dated::Blank => true,
-        Dated::Filled(_) => true,
-    }
-}
-
-// 4C can be read.
-fn is_position(s: &[u8]) -> bool
-    ensures { λ r. ⌜ r ≡ positionGood (now (s .entry)) ⌝ }
-{
-    match read_position(s) {
-        Located::Bad => false,
-        Located::Filled(_) => true,
-    }
-}
 
 // Rules 1 to 7.
 fn channel_code(rec: &[u8]) -> u8

@@ -2,17 +2,11 @@
 use crate::judging::check_station;
 use basics::Outcome;
 use basics::outcomes::is_done;
-use days::dates::Day;
 use days::dates::day_in;
-use distances::Height;
-use distances::Kilometres;
-use distances::Metres;
 use distances::read_ground;
 use distances::read_height;
 use distances::read_radius;
 use formats::Format;
-use formats::Tenths;
-use frequencies::Frequency;
 use frequencies::read_frequency;
 use keeping::text2;
 use keeping::text3;
@@ -21,41 +15,27 @@ use keeping::text9;
 use keeping::text15;
 use keeping::text20;
 use keeping::text50;
-use positions::Located;
-use positions::Position;
-use positions::read_position;
+use positions::position_in;
 use station::Antenna;
 use station::Channel;
 use station::Coordination;
 use station::Emission;
 use station::Site;
 use station::Station;
+use station::empty::empty_station;
 use tenths::read_tenths;
 ghost use mathlib.Core.Path.{_≡_};
-ghost use mathlib.Core.Bool.{true};
 ghost use lib.ListN.{length};
-ghost use Rattle.positions.specs.Positions.{positionGood, positionOf};
 ghost use Rattle.basics.specs.Rules.{All};
 ghost use Rattle.station.specs.Places.{fieldsOf};
 ghost use Rattle.station.specs.Rules.{fieldRules};
 ghost use Rattle.station.specs.Codes.{valueOf};
-ghost use Rattle.reading.specs.Promises.{StationRead, StationEmpty};
+ghost use Rattle.reading.specs.Promises.{StationRead};
 
 // How reading ended, and the station: the empty one on a refusal.
 pub struct ReadStation {
     pub outcome: Outcome,
     pub station: Station,
-}
-
-// The position of 4C, where it can be read.
-fn position_in(s: &[u8]) -> Position
-    requires { ⌜ positionGood (now s) ≡ true ⌝ }
-    ensures { λ r. ⌜ r ≡ positionOf (now (s .entry)) ⌝ }
-{
-    match read_position(s) {
-        Located::Bad => Position { east: 0, north: 0 },
-        Located::Filled(p) => p,
-    }
 }
 
 // What is sent, and for whom, as the record says it.
@@ -170,52 +150,6 @@ fn station_in(rec: &[u8]) -> Station
         emission: emission_in(rec),
         antenna: antenna_in(rec),
         coordination: coordination_in(rec),
-    }
-}
-
-// The empty station: numbers 0, choices the first listed, dates and optional values blank, text all spaces.
-pub fn empty_station() -> Station
-    ensures { λ r. ⌜ StationEmpty r ⌝ }
-{
-    Station {
-        channel: Channel {
-            transmit: Frequency::Blank,
-            category: b'1',
-            class: [b'F', b'B'],
-            service: [b'C', b'O'],
-            users: [b' '; 2],
-            carrier: b'0',
-        },
-        site: Site {
-            started: Day::Blank,
-            name: [b' '; 20],
-            country: [b' '; 3],
-            position: Position { east: 0, north: 0 },
-            radius: Kilometres(0),
-            height: Height::Blank,
-        },
-        emission: Emission {
-            designation: [b' '; 9],
-            power: Tenths::Blank,
-            basis: b'E',
-            azimuth: Tenths::Blank,
-            elevation: Tenths::Blank,
-        },
-        antenna: Antenna {
-            polarisation: [b'H', b' '],
-            gain: Tenths::Blank,
-            ground: Metres(0),
-            horizontal: [b' '; 7],
-            vertical: [b' '; 7],
-        },
-        coordination: Coordination {
-            receive: Frequency::Blank,
-            remarks: [b' '; 50],
-            status: b'F',
-            requested: Day::Blank,
-            coordinated: Day::Blank,
-            reference: [b' '; 15],
-        },
     }
 }
 

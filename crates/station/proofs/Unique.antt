@@ -6,7 +6,7 @@ use Rattle.distances.specs.declared.Metres.{Metres}
 use Rattle.distances.specs.declared.Height.{Height}
 use Rattle.basics.specs.declared.Place.{Place}
 use Rattle.station.specs.Setting.{withPower, withAzimuth, withElevation, withHeight, withGround}
-use Rattle.station.specs.Promises.{StationPlaced, StationJudged, StationSet, PowerSet, AzimuthSet, ElevationSet, HeightSet, GroundSet}
+use Rattle.station.specs.Promises.{StationPlaced, StationJudged, StationSet, PowerSet, AzimuthSet, ElevationSet, HeightSet, GroundSet, StationEmpty}
 use Rattle.station.specs.declared.Station.{Station}
 use Rattle.station.specs.declared.setting.Settled.{Settled}
 
@@ -41,3 +41,7 @@ one-height s v = one-setting s (withHeight s v)
 -- and `set_ground` one.
 pub one-ground : (s : Station) (v : Metres) (a b : Settled) → GroundSet s v a → GroundSet s v b → a ≡ b
 one-ground s v = one-setting s (withGround s v)
+
+-- There is one empty station.
+pub one-empty : (a b : Station) → StationEmpty a → StationEmpty b → a ≡ b
+one-empty a b p q = p ∙ sym q

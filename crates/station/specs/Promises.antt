@@ -7,6 +7,7 @@ use Rattle.distances.specs.declared.Height.{Height}
 use Rattle.basics.specs.Fields.{placeOf}
 use Rattle.basics.specs.declared.Place.{Place}
 use Rattle.station.specs.Places.{stationPlaces}
+use Rattle.station.specs.Values.{emptyStation}
 use Rattle.station.specs.Codes.{typedCode}
 use Rattle.station.specs.Calls.{setOutcome, setStation}
 use Rattle.station.specs.Setting.{withPower, withAzimuth, withElevation, withHeight, withGround}
@@ -44,3 +45,7 @@ HeightSet s v answer = StationSet s (withHeight s v) answer
 -- `set_ground`, 9Y
 abbrev pub GroundSet : Station → Metres → Settled → Type 0
 GroundSet s v answer = StationSet s (withGround s v) answer
+
+-- `empty_station`: the station that a refused reading hands back.
+abbrev pub StationEmpty : Station → Type 0
+StationEmpty answer = answer ≡ emptyStation

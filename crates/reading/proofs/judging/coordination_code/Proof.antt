@@ -1,5 +1,5 @@
 -- `reading::judging::coordination_code` meets its contract: each test of the code is a rule of the group.
-use mathlib.Core.Path.{_≡_, _∙_}
+use mathlib.Core.Path.{_∙_}
 use denote.Ref.{now}
 use Rattle.fields.specs.Table.{fitsAt}
 use Rattle.reading.proofs.PartLaws.{byte-field}

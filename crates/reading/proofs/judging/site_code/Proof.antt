@@ -1,9 +1,8 @@
 -- `reading::judging::site_code` meets its contract: each test of the code is a rule of the group.
-use mathlib.Core.Path.{_≡_, _∙_}
+use mathlib.Core.Path.{_∙_}
 use denote.Ref.{now}
 use Rattle.station.specs.Places.{fieldsOf}
 use Rattle.station.specs.Groups.{siteFields}
-use native.Mathlib.Omega.{arith}
 use borrow.Author.Needs.{needs}
 use Rattle.reading.proofs.judging.site_code.Statement.{statement}
 use Rattle.reading.proofs.judging.site_code.Tie as tie

@@ -1,7 +1,6 @@
 -- `station::between::is_repeater_name` meets its contract.
-use Prim.Native.Nat.{_≤_}
-use mathlib.Core.Path.{_≡_, sym, _∙_}
-use lib.ListN.{length, take}
+use mathlib.Core.Path.{sym, _∙_}
+use lib.ListN.{take}
 use lib.Seq.{length-take-le}
 use denote.Ref.{now}
 use Rattle.station.proofs.EndLaws.{ends-short, ends-there}

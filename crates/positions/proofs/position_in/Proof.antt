@@ -1,16 +1,16 @@
--- `reading::typed::position_in` meets its contract: where the rule holds, a position is what was read.
+-- `positions::position_in` meets its contract: where the rule holds, a position is what was read.
 use mathlib.Core.Path.{_≡_, sym, ap, _∙_}
 use mathlib.Core.Bool.{true}
 use mathlib.Core.List.{List}
 use Prim.Native.Nat.{ℕ}
 use lib.IntN.{pos}
 use Rattle.positions.specs.Positions.{positionGood, positionOf, locatedOf}
 use Rattle.positions.specs.declared.Position.{Position}
 use Rattle.positions.specs.declared.Located.{Located}
 use Rattle.positions.specs.declared.Located.the-variants as located
 use borrow.Author.Needs.{needs}
-use Rattle.reading.proofs.typed.position_in.Statement.{statement}
-use Rattle.reading.proofs.typed.position_in.Tie as tie
+use Rattle.positions.proofs.position_in.Statement.{statement}
+use Rattle.positions.proofs.position_in.Tie as tie
 
 -- the position that was read, and where none was, the one of no degrees
 place : Located → Position

@@ -1,10 +1,10 @@
--- `reading::judging::is_day` meets its contract, answer by answer.
+-- `days::dates::is_day` meets its contract, answer by answer.
 use mathlib.Core.Path.{_≡_, sym, ap, _∙_}
 use mathlib.Core.Bool.{Bool}
 use Rattle.days.specs.Dates.{dayPasses, dateOf, dayGood}
 use borrow.Author.Needs.{needs}
-use Rattle.reading.proofs.judging.is_day.Statement.{statement}
-use Rattle.reading.proofs.judging.is_day.Tie as tie
+use Rattle.days.proofs.dates.is_day.Statement.{statement}
+use Rattle.days.proofs.dates.is_day.Tie as tie
 
 read-date-requires : tie.Need-read-date-requires
 read-date-requires c κs = search needs

@@ -1,15 +1,15 @@
--- `reading::judging::is_position` meets its contract, answer by answer.
+-- `positions::is_position` meets its contract, answer by answer.
 use mathlib.Core.Path.{_≡_, refl, sym, ap, _∙_}
 use mathlib.Core.Bool.{Bool, true, false, cond}
 use mathlib.Core.List.{List}
 use Prim.Native.Nat.{ℕ}
 use Rattle.positions.specs.Positions.{positionGood, positionOf, locatedOf}
 use Rattle.positions.specs.declared.Position.{Position}
 use Rattle.positions.specs.declared.Located.{Located}
 use Rattle.positions.specs.declared.Located.the-variants as located
 use borrow.Author.Needs.{needs}
-use Rattle.reading.proofs.judging.is_position.Statement.{statement}
-use Rattle.reading.proofs.judging.is_position.Tie as tie
+use Rattle.positions.proofs.is_position.Statement.{statement}
+use Rattle.positions.proofs.is_position.Tie as tie
 
 -- a position was read
 found : Located → Bool
