@@ -4,7 +4,7 @@ use distances::Height;
 use distances::Metres;
 use formats::Tenths;
 use header::judging::check_header;
-use reading::judging::check_station;
+use judging::check_station;
 use rewriting::changing::change_azimuth;
 use rewriting::changing::change_elevation;
 use rewriting::changing::change_ground;

@@ -9,8 +9,8 @@ use lib.ListN.{length, take}
 use lib.Seq.{take-all, length-take-le}
 use borrow.Author.Tests.{lt-leb, leb-true, leb-false}
 use Rattle.station.specs.Places.{stationPlaces}
-use Rattle.lists.specs.Lines.{isMark, before, behind, split, lineFields, longestLine}
-use Rattle.lists.proofs.Reading.{columnsOf}
+use Rattle.semicolons.specs.Lines.{isMark, before, behind, split, lineFields, longestLine}
+use Rattle.semicolons.proofs.WidthLaws.{columnsOf}
 use Rattle.faults.specs.Faults.{firstLonger, longField}
 use Rattle.faults.specs.declared.LongField.{LongField}
 

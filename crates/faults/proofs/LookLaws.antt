@@ -9,8 +9,8 @@ use lib.ListN.{length, getD, take, drop, drop-of-length-le}
 use lib.Seq.{drop-cons, length-take-le}
 use borrow.Author.Tests.{le-leb, lt-leb, lt-ltb}
 use Rattle.basics.specs.Fields.{placeOf}
-use Rattle.lists.specs.Lines.{before, behind, split}
-use Rattle.lists.proofs.FillLaws.{field-found}
+use Rattle.semicolons.specs.Lines.{before, behind, split}
+use Rattle.semicolons.proofs.FillLaws.{field-found}
 use Rattle.faults.specs.Faults.{noField, firstLonger}
 use Rattle.faults.specs.declared.LongField.{LongField}
 

@@ -12,8 +12,8 @@ use Rattle.basics.specs.Outcomes.{refusal, firstRefusal}
 use Rattle.basics.specs.declared.Outcome.the-variants as outcome
 use Rattle.station.specs.Places.{stationPlaces}
 use Rattle.station.specs.Codes.{stationCode}
-use Rattle.lists.specs.Fields.{noneLonger}
-use Rattle.lists.specs.Lines.{lineFields, isLine, recordOf}
+use Rattle.semicolons.specs.Fields.{noneLonger}
+use Rattle.semicolons.specs.Lines.{lineFields, isLine, recordOf}
 use Rattle.lists.specs.Calls.{lineOutcome}
 use Rattle.faults.specs.Faults.{marksOf, hasMarks, firstLonger, longField}
 use Rattle.faults.specs.declared.LongField.{LongField}

@@ -3,7 +3,7 @@ use mathlib.Core.Path.{_≡_, refl}
 use mathlib.Core.Bool.{true, false}
 use mathlib.Core.List.{[], _∷_, _++_}
 use Rattle.columns.specs.Texts.{bytes, howMany}
-use Rattle.lists.specs.Lines.{before, behind, split, lineFields}
+use Rattle.semicolons.specs.Lines.{before, behind, split, lineFields}
 use Rattle.faults.specs.Faults.{marksOf, hasMarks, noField, firstLonger, longField}
 
 -- Two semicolons, and a line feed at the end: no line yet,

@@ -6,7 +6,7 @@ use lib.ListN.{length}
 use lib.Dec.{leb, eqb}
 use Rattle.columns.specs.Texts.{howMany}
 use Rattle.station.specs.Places.{stationPlaces}
-use Rattle.lists.specs.Lines.{isSemicolon, isFeed, lastByte, lineFields}
+use Rattle.semicolons.specs.Lines.{isSemicolon, isFeed, lastByte, lineFields}
 use Rattle.faults.specs.declared.Marks.{Marks}
 use Rattle.faults.specs.declared.LongField.{LongField}
 

@@ -1,6 +1,6 @@
 // The first field of a line that is longer than its columns.
 use crate::LongField;
-use lists::marks::field_length;
+use semicolons::marks::field_length;
 use station::places::station_place;
 ghost use mathlib.Core.Path.{_≡_};
 ghost use Prim.Native.Nat.{_+_, _≤_};

@@ -1,9 +1,9 @@
 // The marks of a line.
 use crate::Marks;
 use columns::texts::byte;
-use lists::marks::count;
+use semicolons::marks::count;
 ghost use mathlib.Core.Path.{_≡_};
-ghost use Rattle.lists.specs.Lines.{isFeed, lastByte};
+ghost use Rattle.semicolons.specs.Lines.{isFeed, lastByte};
 ghost use Rattle.faults.specs.Faults.{hasMarks};
 ghost use Rattle.faults.specs.Promises.{LineMarked};
 

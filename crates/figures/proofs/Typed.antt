@@ -19,9 +19,9 @@ use Rattle.station.specs.Between.{roundAntenna, betweenRules}
 use Rattle.station.specs.Values.{stationOf}
 use Rattle.station.specs.Spelling.{stationPieces, spellStation}
 use Rattle.station.specs.Codes.{valueOf, stationCode, typedCode}
-use Rattle.lists.specs.Fields.{trimmedField, paddedField}
-use Rattle.lists.specs.Lines.{lineOf, before, behind, split, lineFields, isLine}
-use Rattle.lists.specs.Lines as lines
+use Rattle.semicolons.specs.Fields.{trimmedField, paddedField}
+use Rattle.semicolons.specs.Lines.{lineOf, before, behind, split, lineFields, isLine}
+use Rattle.semicolons.specs.Lines as lines
 use Rattle.lists.specs.Calls.{lineOutcome, stationInLine}
 use Rattle.header.specs.Places.{headerFields}
 use Rattle.serials.specs.Serials.{serialGood, serialOf}

@@ -6,7 +6,7 @@ use mathlib.Core.List.{List, [], _∷_, _++_}
 use Rattle.columns.specs.Texts.{bytes}
 use Rattle.station.specs.Spelling.{spellStation}
 use Rattle.station.specs.Codes.{valueOf, stationCode, typedCode}
-use Rattle.lists.specs.Lines.{lineOf}
+use Rattle.semicolons.specs.Lines.{lineOf}
 use Rattle.lists.specs.Calls.{lineOutcome, stationInLine}
 use Rattle.header.specs.Values.{headerOf}
 use Rattle.header.specs.Codes.{headerCode, filedHeaderCode}

@@ -9,9 +9,8 @@ use lib.Seq.{length-take-le, take-length, take-all, take-add, take-at, drop-at}
 use lib.Dec.{eqb}
 use borrow.Author.Tests.{eq-eqb, ne-eqb}
 use Rattle.bytes.specs.Bytes.{slice, indexOf, indexAfter}
-use Rattle.lists.specs.Lines.{isFeed, lastByte}
-use Rattle.lists.specs.Whole.{linesFrom}
-use Rattle.lists.proofs.LineLaws.{last-cons, last-append}
+use Rattle.semicolons.specs.Lines.{isFeed, lastByte, linesFrom}
+use Rattle.semicolons.proofs.LineLaws.{last-cons, last-append}
 use Rattle.gathering.specs.Cutting.{firstLine, laterLines, openLine, afterPart}
 use Rattle.gathering.specs.Gathering.{Holds, Follows}
 use Rattle.gathering.specs.Promises.{Begun, GoneOn}

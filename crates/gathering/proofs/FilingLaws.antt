@@ -11,8 +11,8 @@ use borrow.Author.Tests.{le-leb, lt-leb, leb-true, leb-false, eq-eqb, ne-eqb, eq
 use Rattle.columns.specs.Texts.{howMany, sized}
 use Rattle.basics.specs.Fields.{recordLength, joined}
 use Rattle.station.specs.Places.{stationPlaces}
-use Rattle.lists.specs.Fields.{noneLonger}
-use Rattle.lists.specs.Lines.{isSemicolon, isFeed, lineFields, isLine, longestLine}
+use Rattle.semicolons.specs.Fields.{noneLonger}
+use Rattle.semicolons.specs.Lines.{isSemicolon, isFeed, lineFields, isLine, longestLine}
 use Rattle.basics.specs.Outcomes.{refusal, ifDone, firstRefusal, bufferTest}
 use Rattle.basics.proofs.RefusalLaws.{passes, stops}
 use Rattle.lists.specs.Calls.{lineTests, lineOutcome, lineFiling, filedLine}
@@ -23,7 +23,7 @@ use Rattle.gathering.specs.Gathering.{room, keptOf, Holds, keptThrough, 
 use Rattle.gathering.specs.Calls.{longOutcome, gatheredFiling, filedGathered}
 use Rattle.gathering.specs.Promises.{GatheredFiled}
 use Rattle.gathering.specs.declared.Gathered.{Gathered}
-use Rattle.lists.proofs.SizeLaws.{line-length}
+use Rattle.semicolons.proofs.SizeLaws.{line-length}
 use Rattle.gathering.proofs.HoldLaws.{holds-all}
 
 -- ---- how the call ends

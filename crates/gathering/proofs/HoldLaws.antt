@@ -8,20 +8,15 @@ use lib.ListN.{length, length-append}
 use borrow.Author.Tests.{ne-eqb}
 use Rattle.columns.specs.Texts.{howMany}
 use Rattle.basics.specs.Fields.{joined}
-use Rattle.lists.specs.Lines.{isSemicolon, isFeed, lastByte}
-use Rattle.lists.proofs.LineLaws.{last-append}
+use Rattle.semicolons.specs.Lines.{isSemicolon, isFeed, lastByte}
+use Rattle.semicolons.proofs.LineLaws.{last-append}
+use Rattle.semicolons.proofs.CountLaws.{how-many-append}
 use Rattle.gathering.specs.Gathering.{room, keptOf, Holds, lastAfter, keptWith, holding, keptThrough, heldThrough}
 use Rattle.gathering.specs.Promises.{Begun, GoneOn}
 use Rattle.gathering.specs.declared.Gathered.{Gathered}
 use Rattle.gathering.proofs.PartLaws.{held-on, holding-length}
 
--- Bytes are counted part by part,
-how-many-append : (test : ℕ → Bool) (t p : List ℕ) → howMany test (t ++ p) ≡ howMany test t + howMany test p
-unfolding howMany
-how-many-append test [] p = omega arith
-how-many-append test (c ∷ t) p = omega (arith, how-many-append test t p)
-
--- and up to a limit as well.
+-- Bytes are counted part by part, up to a limit as well.
 counted-on : (test : ℕ → Bool) (most : ℕ) (t p : List ℕ) → min most (min most (howMany test t) + howMany test p) ≡ min most (howMany test (t ++ p))
 counted-on test most t p = omega (arith, how-many-append test t p)
 

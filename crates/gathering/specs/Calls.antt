@@ -6,7 +6,7 @@ use lib.ListN.{take}
 use lib.Dec.{leb, eqb}
 use Rattle.columns.specs.Texts.{sized}
 use Rattle.basics.specs.Fields.{recordLength}
-use Rattle.lists.specs.Lines.{isFeed, longestLine}
+use Rattle.semicolons.specs.Lines.{isFeed, longestLine}
 use Rattle.lists.specs.Calls.{lineFiling, filedLine}
 use Rattle.basics.specs.declared.Outcome.{Outcome}
 use Rattle.basics.specs.declared.Outcome.the-variants as outcome

@@ -2,7 +2,7 @@
 use Prim.Native.Nat.{ℕ}
 use mathlib.Core.Bool.{cond}
 use mathlib.Core.List.{List, [], _∷_, _++_}
-use Rattle.lists.specs.Lines.{isFeed, lastByte}
+use Rattle.semicolons.specs.Lines.{isFeed, lastByte}
 
 -- The first line of a text, all of it where there is no line feed,
 unfoldable pub firstLine : List ℕ → List ℕ

@@ -6,7 +6,7 @@ use mathlib.Core.List.{List, [], _∷_, _++_}
 use lib.ListN.{length, take, drop}
 use lib.Dec.{eqb}
 use Rattle.columns.specs.Texts.{howMany}
-use Rattle.lists.specs.Lines.{isSemicolon, isFeed, lastByte}
+use Rattle.semicolons.specs.Lines.{isSemicolon, isFeed, lastByte}
 use Rattle.gathering.specs.declared.Gathered.{Gathered}
 
 -- A lent buffer of 250 bytes has room for the longest line of a station, 249 bytes, and one byte more.

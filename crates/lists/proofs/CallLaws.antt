@@ -16,12 +16,12 @@ use Rattle.station.specs.Codes.{valueOf, stationCode, typedCode}
 use Rattle.station.specs.Spelling.{spellStation}
 use Rattle.station.specs.Calls.{readOutcome, readStation, writeOutcome, writtenStation}
 use Rattle.station.specs.declared.Station.{Station}
-use Rattle.lists.specs.Fields.{noneLonger}
-use Rattle.lists.specs.Lines.{lineOf, lineFields, isLine, recordOf}
+use Rattle.semicolons.specs.Fields.{noneLonger}
+use Rattle.semicolons.specs.Lines.{lineOf, lineFields, isLine, recordOf}
 use Rattle.lists.specs.Calls.{lineOutcome, stationInLine, writeLineOutcome, lineLength, writtenLine}
 use Rattle.basics.specs.declared.Outcome.the-variants as outcome
 use Rattle.lists.proofs.RoundTrip.{write-done}
-use Rattle.lists.proofs.Reading.{record-length}
+use Rattle.semicolons.proofs.WidthLaws.{record-length}
 
 module _ (t : List ℕ) where
   -- What is not a line is refused,

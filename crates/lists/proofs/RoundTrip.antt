@@ -23,14 +23,15 @@ use Rattle.station.specs.Spelling.{stationPieces, spellStation}
 use Rattle.station.specs.Codes.{typedCode}
 use Rattle.station.specs.declared.Station.{Station}
 use Rattle.station.proofs.RoundTrip.{write-keeps, read-back}
-use Rattle.lists.specs.Fields.{stationSides, trimmedFields, noneLonger}
-use Rattle.lists.specs.Lines.{isSemicolon, isFeed, joinedLine, lineOf, lineFields, lastByte, isLine, recordOf}
+use Rattle.semicolons.specs.Fields.{stationSides, trimmedFields, noneLonger}
+use Rattle.semicolons.specs.Lines.{isSemicolon, isFeed, joinedLine, lineOf, lineFields, lastByte, isLine, longestLine, recordOf}
 use Rattle.basics.specs.Outcomes.{refusal, ifDone, firstRefusal}
 use Rattle.lists.specs.Calls.{lineOutcome, stationInLine, writeLineOutcome, lineLength, writtenLine}
 use Rattle.basics.specs.declared.Outcome.the-variants as outcome
-use Rattle.lists.proofs.LineLaws.{AllPlain, split-joined, semicolons, one-feed, feed-last}
-use Rattle.lists.proofs.PieceLaws.{Pieces, pieces-wide, pieces-plain, pieces-short, pieces-back}
-use Rattle.lists.proofs.KindPieces.{table-pieces}
+use Rattle.semicolons.proofs.LineLaws.{AllPlain, split-joined, semicolons, one-feed, feed-last}
+use Rattle.semicolons.proofs.PieceLaws.{Pieces, pieces-wide, pieces-plain, pieces-short, pieces-back}
+use Rattle.semicolons.proofs.KindPieces.{table-pieces}
+use Rattle.semicolons.proofs.SizeLaws.{line-length}
 
 -- thirty fields make a line
 marked : (ps : List (List ℕ)) → AllPlain ps → length ps ≡ 30 → isLine (joinedLine ps) ≡ true
@@ -139,3 +140,7 @@ same-length line buffer k false b e = refl
 pub write-length : (s : Station) (buffer : List ℕ) → length (writtenLine s buffer) ≡ length buffer
 unfolding writtenLine writeLineOutcome firstRefusal
 write-length s buffer = same-length (lineOf s) buffer (typedCode s) (eqb (typedCode s) 0) (leb (length (lineOf s)) (length buffer)) refl
+
+-- The line of a station that breaks no rule has no field that is too long.
+pub line-size : (s : Station) → typedCode s ≡ 0 → length (lineOf s) ≤ longestLine
+line-size s e = line-length (lineOf s) (line-is s e) (fields-fit s e)

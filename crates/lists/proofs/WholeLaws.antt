@@ -11,10 +11,11 @@ use Rattle.columns.specs.Texts.{howMany}
 use Rattle.station.specs.Codes.{typedCode}
 use Rattle.station.specs.Spelling.{spellStation}
 use Rattle.station.specs.declared.Station.{Station}
-use Rattle.lists.specs.Lines.{isFeed, lineOf, lastByte}
+use Rattle.semicolons.specs.Lines.{isFeed, lineOf, lastByte, linesFrom, linesOf}
 use Rattle.basics.specs.Outcomes.{refusal, ifDone}
-use Rattle.lists.specs.Whole.{linesFrom, linesOf, broughtIn, recordsOf}
-use Rattle.lists.proofs.LineLaws.{last-cons}
+use Rattle.lists.specs.Whole.{broughtIn, recordsOf}
+use Rattle.semicolons.proofs.LineLaws.{last-cons}
+use Rattle.semicolons.proofs.CountLaws.{ends-counted}
 use Rattle.lists.proofs.RoundTrip.{line-done, line-back}
 
 -- a line feed that is last is the last of what stands behind the first byte
@@ -38,12 +39,6 @@ unfolding linesFrom
 lines-append [] b h = refl
 lines-append (c ∷ t) b h = lines-from [] (c ∷ t) b (omega arith) (h (omega arith))
 
--- a text that ends with a line feed has one
-feed-counts : (c : ℕ) (t : List ℕ) → lastByte (c ∷ t) ≡ 10 → 1 ≤ howMany isFeed (c ∷ t)
-unfolding howMany
-feed-counts c [] h = rw (eq-eqb c 10 h) (omega arith)
-feed-counts c (d ∷ t) h = omega (arith, feed-counts d t (last-rest c d t h))
-
 -- a text with one line feed, its last byte, ends the line that it goes on
 line-from : (p t : List ℕ) → howMany isFeed t ≡ 1 → lastByte t ≡ 10 → linesFrom p t ≡ (p ++ t) ∷ []
 unfolding linesFrom howMany
@@ -51,7 +46,7 @@ line-from p [] n h = absurd (omega (arith, n))
 line-from p (c ∷ []) n h = rw (eq-eqb c 10 h)
 line-from p (c ∷ d ∷ t) n h = by (λ m. line-from (p ++ (c ∷ [])) (d ∷ t) m (last-rest c d t h)) (isFeed c) refl where
   by : (howMany isFeed (d ∷ t) ≡ 1 → linesFrom (p ++ (c ∷ [])) (d ∷ t) ≡ ((p ++ (c ∷ [])) ++ (d ∷ t)) ∷ []) → (e : Bool) → isFeed c ≡ e → linesFrom p (c ∷ d ∷ t) ≡ (p ++ (c ∷ d ∷ t)) ∷ []
-  by one true z = absurd (omega (arith, feed-counts d t (last-rest c d t h), rw z at n))
+  by one true z = absurd (omega (arith, ends-counted isFeed (d ∷ t) (omega arith) (eq-eqb (lastByte (d ∷ t)) 10 (last-rest c d t h)), rw z at n))
   by one false z = rw z (one (sym (zero-add (howMany isFeed (d ∷ t))) ∙ (rw z at n)) ∙ ap (λ (l : List ℕ). l ∷ []) (append-assoc p (c ∷ []) (d ∷ t)))
 
 -- A text with one line feed, its last byte, is one line.

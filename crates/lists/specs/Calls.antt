@@ -12,8 +12,8 @@ use Rattle.station.specs.Values.{emptyStation}
 use Rattle.station.specs.Codes.{valueOf, stationCode, typedCode}
 use Rattle.station.specs.Spelling.{spellStation}
 use Rattle.station.specs.declared.Station.{Station}
-use Rattle.lists.specs.Fields.{noneLonger}
-use Rattle.lists.specs.Lines.{lineOf, lineFields, isLine, recordOf}
+use Rattle.semicolons.specs.Fields.{noneLonger}
+use Rattle.semicolons.specs.Lines.{lineOf, lineFields, isLine, recordOf}
 
 -- Reading a line asks 10, 11 and 9, in that order.
 abbrev pub lineTests : List ℕ → List Test
@@ -58,7 +58,7 @@ listedLength r buffer = ifDone (recordListing r buffer) (length (lineOf (valueOf
 unfoldable pub listedRecord : List ℕ → List ℕ → List ℕ
 listedRecord r buffer = ifDone (recordListing r buffer) (lineOf (valueOf r) ++ drop (length (lineOf (valueOf r))) buffer) buffer
 
--- Coordination a line as a record asks 7, and then what reading it asks.
+-- Filing a line as a record asks 7, and then what reading it asks.
 unfoldable pub lineFiling : List ℕ → List ℕ → Outcome
 lineFiling t out = firstRefusal (bufferTest out ∷ lineTests t)
 

@@ -17,10 +17,10 @@ use Rattle.files.proofs.FileLaws.{record-wide}
 use Rattle.basics.proofs.RefusalLaws.{done}
 use Rattle.files.proofs.LengthLaws.{length-passed, whole-records}
 use Rattle.stations.specs.Counting.{rows}
-use Rattle.lists.specs.Lines.{lastByte}
+use Rattle.semicolons.specs.Lines.{lastByte, linesFrom, linesOf}
 use Rattle.basics.specs.Outcomes.{refusal, ifDone}
-use Rattle.lists.specs.Whole.{linesFrom, linesOf, broughtIn, recordsOf}
-use Rattle.lists.proofs.LineLaws.{last-append}
+use Rattle.lists.specs.Whole.{broughtIn, recordsOf}
+use Rattle.semicolons.proofs.LineLaws.{last-append}
 use Rattle.lists.proofs.WholeLaws.{lines-append, one-of-lines, records-append, brought-back}
 use Rattle.printing.specs.Lines.{brokenLine}
 use Rattle.printing.specs.Reports.{lengthOutcome}

@@ -12,13 +12,13 @@ use Rattle.station.specs.Codes.{valueOf, stationCode}
 use Rattle.station.proofs.RoundTrip.{read-fits}
 use Rattle.files.specs.Files.{recordAt}
 use Rattle.files.proofs.FileLaws.{record-wide}
-use Rattle.lists.specs.Lines.{lineOf}
+use Rattle.semicolons.specs.Lines.{lineOf}
 use Rattle.basics.specs.Outcomes.{refusal, codeWith, ifDone, firstRefusal}
 use Rattle.lists.specs.Calls.{recordListing, listedLength, listedRecord}
 use Rattle.lists.specs.Promises.{RecordListed}
 use Rattle.basics.specs.declared.Outcome.the-variants as outcome
 use Rattle.lists.specs.declared.writing_lines.WrittenLine.{WrittenLine}
-use Rattle.lists.proofs.SizeLaws.{line-size}
+use Rattle.lists.proofs.RoundTrip.{line-size}
 use Rattle.printing.specs.Lines.{brokenLine}
 use Rattle.printing.specs.Lists.{entry, entryOf}
 use Rattle.printing.specs.Promises.{Appended}

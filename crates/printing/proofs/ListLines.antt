@@ -7,7 +7,7 @@ use mathlib.Core.List.{List, [], _∷_, _++_, append-assoc, append-nil}
 use Prim.Native.Nat.{ℕ, zero, suc, _+_, _*_, _≤_, _<_}
 use Prim.Native.String.{String}
 use native.Mathlib.Omega.{arith}
-use native.Mathlib.Nat.{zero-add, eq-or-lt-of-le}
+use native.Mathlib.Nat.{eq-or-lt-of-le}
 use native.Mathlib.Numerals.{add-one}
 use lib.Dec.{eqb}
 use lib.ListN.{length}
@@ -23,10 +23,11 @@ use Rattle.basics.specs.Outcomes.{firstRefusal}
 use Rattle.basics.proofs.RefusalLaws.{done}
 use Rattle.files.proofs.LengthLaws.{length-passed, whole-records}
 use Rattle.stations.specs.Counting.{rows}
-use Rattle.lists.specs.Lines.{isSemicolon, isFeed, lastByte, isLine, joinedLine, lineOf}
+use Rattle.semicolons.specs.Lines.{isSemicolon, isFeed, lastByte, isLine, joinedLine, lineOf}
 use Rattle.lists.specs.Calls.{lineOutcome}
-use Rattle.lists.proofs.LineLaws.{plain, semicolons, one-feed, feed-last}
-use Rattle.lists.proofs.PieceLaws.{every-more, every-append, solid, solid-plain, solid-digits}
+use Rattle.semicolons.proofs.CountLaws.{how-many-append}
+use Rattle.semicolons.proofs.LineLaws.{plain, semicolons, one-feed, feed-last}
+use Rattle.semicolons.proofs.PieceLaws.{every-more, every-append, solid, solid-plain, solid-digits}
 use Rattle.lists.proofs.RoundTrip.{line-is}
 use Rattle.printing.specs.Lines.{places, decimal, labelled, brokenLine}
 use Rattle.printing.specs.Reports.{lengthOutcome}
@@ -85,12 +86,6 @@ entry-ends k r n = by (eqb (stationCode r) 0) refl where
   by true z = rw z (line-ends (lineOf (valueOf r)) (line-is (valueOf r) (read-fits r n (eqb-true (stationCode r) 0 z))))
   by false z = rw z (broken-ends k (stationCode r))
 
--- passing bytes of two texts are counted together
-count-append : (test : ℕ → Bool) (s t : List ℕ) → howMany test (s ++ t) ≡ howMany test s + howMany test t
-unfolding howMany
-count-append test [] t = sym (zero-add (howMany test t))
-count-append test (c ∷ s) t = omega (arith, count-append test s t)
-
 -- so that the first n of them are n lines,
 entry-lines : (file : List ℕ) (n : ℕ) → 219 * n + 219 ≤ length file → howMany isFeed (rows (entryOf file) n) ≡ n
 unfolding howMany entryOf
@@ -98,7 +93,7 @@ entry-lines file zero h = refl
 entry-lines file (suc n) h =
     let rest = entry-lines file n (omega arith) in
     let last = entry-ends (suc n) (recordAt file (suc n)) (record-wide file (suc n) (omega arith)) in
-    omega (arith, count-append isFeed (rows (entryOf file) n) (entryOf file (suc n)), rest, last .0)
+    omega (arith, how-many-append isFeed (rows (entryOf file) n) (entryOf file (suc n)), rest, last .0)
 
 -- and a list that is not refused has a line for each station.
 pub list-lines : (file : List ℕ) → done (lengthOutcome file) ≡ true → howMany isFeed (listOf file) ≡ stations file

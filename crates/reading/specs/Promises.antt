@@ -6,10 +6,6 @@ use Rattle.basics.specs.declared.Outcome.{Outcome}
 use Rattle.station.specs.Calls.{readOutcome, readStation}
 use Rattle.reading.specs.declared.typed.ReadStation.{ReadStation}
 
--- `check_station` on a record: how reading it ends.
-abbrev pub StationChecked : List ℕ → Outcome → Type 0
-StationChecked r answer = answer ≡ readOutcome r
-
 -- `read_station` on a record: how it ends, and the station that it hands back.
 abbrev pub StationRead : List ℕ → ReadStation → Type 0
 StationRead r answer = (answer .outcome ≡ readOutcome r) × (answer .station ≡ readStation r)

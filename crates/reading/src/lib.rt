@@ -1,3 +1,2 @@
-// A station's record of 219 bytes: its code, and its typed station.
-pub mod judging;
+// A station's record of 219 bytes, and the typed station that it says.
 pub mod typed;

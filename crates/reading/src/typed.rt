@@ -1,5 +1,4 @@
 // A station read from its record.
-use crate::judging::check_station;
 use basics::Outcome;
 use basics::outcomes::is_done;
 use days::dates::day_in;
@@ -8,6 +7,7 @@ use distances::read_height;
 use distances::read_radius;
 use formats::Format;
 use frequencies::read_frequency;
+use judging::check_station;
 use keeping::text2;
 use keeping::text3;
 use keeping::text7;

@@ -36,7 +36,7 @@ fn answer(kind: u8, s: &[u8]) {
     let letter = [kind];
     put(&letter);
     match kind {
-        b'S' => put_outcome(reading::judging::check_station(s)),
+        b'S' => put_outcome(judging::check_station(s)),
         b'H' => read_header(s),
         b'h' => put_outcome(header::judging::check_filed_header(s, 2)),
         _ => put(b" no such kind\n"),

@@ -6,7 +6,7 @@ use lib.ListN.{length, getD}
 use Rattle.columns.proofs.TextLaws.{from-on}
 use Rattle.basics.specs.declared.Place.{Place}
 use Rattle.station.specs.Places.{stationPlaces}
-use Rattle.lists.specs.Lines.{lineFields}
+use Rattle.semicolons.specs.Lines.{lineFields}
 use Rattle.faults.specs.Faults.{longField}
 use Rattle.faults.proofs.LookLaws.{Looked, none-looked, all-looked, long-here, look-on, columns-of, field-here}
 use native.Mathlib.Omega.{arith}

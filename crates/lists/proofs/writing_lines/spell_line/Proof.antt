@@ -3,8 +3,8 @@ use mathlib.Core.Path.{refl, ap, _∙_}
 use mathlib.Core.List.{List}
 use Prim.Native.Nat.{ℕ}
 use Rattle.station.specs.Places.{fieldsOf}
-use Rattle.lists.specs.Fields.{stationSides, trimmedFields}
-use Rattle.lists.specs.Lines.{joinedLine}
+use Rattle.semicolons.specs.Fields.{stationSides, trimmedFields}
+use Rattle.semicolons.specs.Lines.{joinedLine}
 use Rattle.lists.proofs.RoundTrip.{record-line}
 use Rattle.lists.proofs.CallLaws.{record-written}
 use borrow.Author.Needs.{needs}

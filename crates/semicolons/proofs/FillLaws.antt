@@ -1,0 +1,226 @@
+-- A field put into blank columns, and the fields of a line put into a record one after the other.
+use mathlib.Core.Path.{_≡_, refl, sym, ap, _∙_}
+use mathlib.Core.Bool.{true, false, cond}
+use mathlib.Core.List.{List, [], _∷_, _++_, append-assoc, append-nil}
+use Prim.Native.Nat.{ℕ, zero, suc, _+_, _-_, _≤_, _<_}
+use native.Mathlib.Omega.{arith}
+use native.Mathlib.Nat.{sub-zero, zero-add, add-sub-cancel-left}
+use native.Mathlib.Numerals.{add-one}
+use lib.Dec.{ltb, eqb}
+use lib.ListN.{length, getD, take, drop, replicate, length-append, length-drop, length-replicate, replicate-append-replicate, drop-of-length-le}
+use lib.Seq.{take-at, drop-at, drop-cons, drop-drop, length-take-le, take-all}
+use borrow.Author.Tests.{eq-eqb, le-leb, lt-leb, ltb-true}
+use Rattle.columns.specs.Texts.{every}
+use Rattle.columns.proofs.TextLaws.{and-split}
+use Rattle.basics.specs.Fields.{joined}
+use Rattle.semicolons.specs.Fields.{missing, paddedField, spacesBefore, paddedFields, noneLonger}
+use Rattle.semicolons.specs.Lines.{before, behind, split}
+use Rattle.semicolons.specs.declared.Side.{Side}
+use Rattle.semicolons.proofs.WidthLaws.{padded-length, columnsOf}
+use Rattle.semicolons.specs.declared.Side.the-variants as side
+
+-- A line without bytes has no last one.
+pub no-last : (t : List ℕ) → length t ≡ 0 → 0 ≡ getD t (length t - 1) 0
+no-last [] e = refl
+no-last (c ∷ t) e = absurd (omega arith)
+
+-- So many spaces,
+abbrev spaces : ℕ → List ℕ
+spaces n = replicate n 32
+
+-- in two parts,
+spaces-split : (a b : ℕ) → spaces (a + b) ≡ spaces a ++ spaces b
+spaces-split a b = sym (replicate-append-replicate {A = ℕ} a b 32)
+
+-- of which the first
+pub take-spaces : (a w : ℕ) → a ≤ w → take a (spaces w) ≡ spaces a
+take-spaces a w h =
+    let e : w ≡ a + (w - a) = omega arith in
+    ap (λ (n : ℕ). take a (spaces n)) e ∙ ap (take a) (spaces-split a (w - a)) ∙ take-at (spaces a) (spaces (w - a)) a (length-replicate {A = ℕ} a 32)
+
+-- and the last are spaces too.
+pub drop-spaces : (a w : ℕ) → a ≤ w → drop a (spaces w) ≡ spaces (w - a)
+drop-spaces a w h =
+    let e : w ≡ a + (w - a) = omega arith in
+    ap (λ (n : ℕ). drop a (spaces n)) e ∙ ap (drop a) (spaces-split a (w - a)) ∙ drop-at (spaces a) (spaces (w - a)) a (length-replicate {A = ℕ} a 32)
+
+-- The spaces before a field leave room for it,
+pub room-behind : (s : Side) (w n : ℕ) → n ≤ w → spacesBefore s w n + n ≤ w
+unfolding spacesBefore
+room-behind side.Left w n h = omega arith
+room-behind side.Right w n h = omega arith
+room-behind side.Kept w n h = omega arith
+
+-- and the padded field is the field between spaces.
+pub padded-between : (s : Side) (w : ℕ) (p : List ℕ) → length p ≤ w → paddedField s w p ≡ replicate (spacesBefore s w (length p)) 32 ++ (p ++ replicate (w - (spacesBefore s w (length p) + length p)) 32)
+unfolding paddedField spacesBefore
+padded-between side.Left w p h =
+    let n : w - (w - length p + length p) ≡ 0 = omega arith in
+    rw n (ap (λ (l : List ℕ). missing w p ++ l) (sym (append-nil p)))
+padded-between side.Right w p h = rw (zero-add (length p))
+padded-between side.Kept w p h = rw (zero-add (length p))
+
+-- So it stands where it is put into blank columns.
+pub put-between : (s : Side) (w a : ℕ) (p blanks : List ℕ) → length p ≤ w → a ≡ spacesBefore s w (length p) → blanks ≡ replicate w 32 → take a blanks ++ (p ++ drop (a + length p) blanks) ≡ paddedField s w p
+put-between s w a p blanks h e b =
+    let room : a + length p ≤ w = rw e (room-behind s w (length p) h) in
+    rw (b, take-spaces a w (omega arith), drop-spaces (a + length p) w room, e) (sym (padded-between s w p h))
+
+-- how many columns each of some places has
+abbrev pub widths : List (ℕ × ℕ) → List ℕ
+widths [] = []
+widths (q ∷ qs) = q .1 ∷ widths qs
+
+-- The columns of the field behind k fields, read from those alone.
+pub width-at : (qs : List (ℕ × ℕ)) (k : ℕ) → getD (widths qs) k 0 ≡ getD qs k (0, 0) .1
+width-at [] k = refl
+width-at (q ∷ qs) zero = refl
+width-at (q ∷ qs) (suc k) = width-at qs k
+
+-- What is in a list whose numbers are all below a limit is below it, and so is the 0 behind its end.
+pub all-below : (m : ℕ) (xs : List ℕ) (k : ℕ) → 0 < m → every (λ x. ltb x m) xs ≡ true → getD xs k 0 < m
+unfolding every
+all-below m [] k h e = h
+all-below m (x ∷ xs) zero h e = ltb-true x m (and-split (ltb x m) (every (λ y. ltb y m) xs) e .0)
+all-below m (x ∷ xs) (suc k) h e = all-below m xs k h (and-split (ltb x m) (every (λ y. ltb y m) xs) e .1)
+
+-- The field that begins at a place, where it ends and where the next one begins.
+pub field-found : (line : List ℕ) (at n : ℕ) (rest : List ℕ) → at ≤ length line → rest ≡ drop at line
+    → (n ≤ length rest) × (before rest ≡ take n rest) × (behind rest ≡ drop (n + 1) rest)
+    → (take n rest ≡ before (drop at line)) × (at + length (take n rest) ≤ length line) × (drop (at + length (take n rest) + 1) line ≡ behind (drop at line))
+field-found line at n rest h e f =
+    let size : length (take n rest) ≡ n = length-take-le n rest (f .0) in
+    let all : length rest ≡ length line - at = ap length e ∙ length-drop at line in
+    let sum : at + n + 1 ≡ at + (n + 1) = omega arith in (
+      sym (f .1) ∙ ap before e,
+      rw size (omega (arith, f .0)),
+      rw (size, sum) (sym (drop-drop (n + 1) at line) ∙ ap (drop (n + 1)) (sym e) ∙ sym (f .2) ∙ ap behind e),
+    )
+
+-- A part of its own length that a text was written into, put back.
+pub put-back : (out text part : List ℕ) (start : ℕ) → start + length text ≤ length out
+    → part ≡ cond (eqb (length (take (start + length text - start) (drop start out))) (length text)) text (take (start + length text - start) (drop start out))
+    → take start out ++ (part ++ drop (start + length text - start) (drop start out)) ≡ take start out ++ (text ++ drop (start + length text) out)
+put-back out text part start h e =
+    let m : start + length text - start ≡ length text = add-sub-cancel-left start (length text) in
+    let room : length text ≤ length (drop start out) = omega (arith, length-drop start out) in
+    let l : length (take (length text) (drop start out)) ≡ length text = length-take-le (length text) (drop start out) room in
+    let same : part ≡ text = e ∙ rw (m, eq-eqb (length (take (length text) (drop start out))) (length text) l) in
+    rw (same, m, drop-drop (length text) start out)
+
+-- ---- fields of a line, put into a record one after the other
+
+-- So many fields of a line stand in the first columns of a record, and the others are still to be put behind them.
+pub record Filled (ss : List Side) (qs : List (ℕ × ℕ)) (line rec : List ℕ) (k at column : ℕ) : Type 0 where
+  pub inside : at ≤ length line
+  pub some : k ≤ length qs
+  pub room : column + columnsOf (drop k qs) ≡ length rec
+  pub fit : noneLonger qs (split (length qs) line) ≡ noneLonger (drop k qs) (split (length qs - k) (drop at line))
+  pub is : joined (paddedFields ss qs (split (length qs) line)) ≡ take column rec ++ joined (paddedFields (drop k ss) (drop k qs) (split (length qs - k) (drop at line)))
+
+-- the first of the fields that are still to come
+module _ (q : ℕ × ℕ) (qs : List (ℕ × ℕ)) (n : ℕ) (t : List ℕ) where
+  -- fits,
+  fits-here : (next : List ℕ) → length (before t) ≤ q .1 → next ≡ behind t → noneLonger (q ∷ qs) (split (suc n) t) ≡ noneLonger qs (split n next)
+  unfolding split
+  fits-here next h e = rw (le-leb (length (before t)) (q .1) h, e)
+
+  -- or is too long,
+  too-long : q .1 < length (before t) → noneLonger (q ∷ qs) (split (suc n) t) ≡ false
+  unfolding split
+  too-long h = rw (lt-leb (length (before t)) (q .1) h)
+
+  -- and stands before the others.
+  field-first : (s : Side) (ss : List Side) (next : List ℕ) → next ≡ behind t → joined (paddedFields (s ∷ ss) (q ∷ qs) (split (suc n) t)) ≡ paddedField s (q .1) (before t) ++ joined (paddedFields ss qs (split n next))
+  unfolding split
+  field-first s ss next e = rw e
+
+-- At the start nothing is put in.
+pub none-filled : (ss : List Side) (qs : List (ℕ × ℕ)) (line rec : List ℕ) → length rec ≡ columnsOf qs → Filled ss qs line rec 0 0 0
+none-filled ss qs line rec e =
+    record {
+      inside = omega arith;
+      some = omega arith;
+      room = omega (arith, e);
+      fit = rw (sub-zero (length qs));
+      is = rw (sub-zero (length qs));
+    }
+
+module _ (ss : List Side) (qs : List (ℕ × ℕ)) (line rec : List ℕ) (k at column : ℕ) (f : Filled ss qs line rec k at column) (l : length ss ≡ length qs) where
+  -- At the end all fields fit,
+  pub all-fit : length qs ≤ k → noneLonger qs (split (length qs) line) ≡ true
+  all-fit h = f .fit ∙ rw (drop-of-length-le qs {i = k} h)
+
+  -- and make the record.
+  pub all-filled : length qs ≤ k → rec ≡ joined (paddedFields ss qs (split (length qs) line))
+  all-filled h =
+      let none : drop k qs ≡ [] = drop-of-length-le qs {i = k} h in
+      let whole : column + columnsOf (drop k qs) ≡ length rec = f .room in
+      let end : length rec ≤ column = omega (arith, rw none at whole) in
+      sym (f .is ∙ rw (drop-of-length-le ss {i = k} (omega arith), take-all column rec end) (append-nil rec))
+
+  module _ (h : k < length qs) where
+    -- the next place,
+    abbrev place : ℕ × ℕ
+    place = getD qs k (0, 0)
+
+    -- with those behind it,
+    next-place : drop k qs ≡ place ∷ drop (suc k) qs
+    next-place = drop-cons qs k (0, 0) h
+
+    -- and how many they are,
+    left : length qs - k ≡ suc (length qs - suc k)
+    left = omega arith
+
+    -- has its columns in the record.
+    pub next-room : column + place .1 ≤ length rec
+    next-room =
+        let whole : column + columnsOf (drop k qs) ≡ length rec = f .room in
+        omega (arith, rw next-place at whole)
+
+    -- A field that is too long for it ends it all;
+    pub field-too-long : place .1 < length (before (drop at line)) → noneLonger qs (split (length qs) line) ≡ false
+    field-too-long long = f .fit ∙ rw (next-place, left) (too-long place (drop (suc k) qs) (length qs - suc k) (drop at line) long)
+
+    -- any other is put there, padded.
+    pub next-filled : (at' : ℕ) (rec' : List ℕ) → length (before (drop at line)) ≤ place .1 → at' ≤ length line → drop at' line ≡ behind (drop at line)
+        → rec' ≡ take column rec ++ (paddedField (getD ss k side.Left) (place .1) (before (drop at line)) ++ drop (column + place .1) rec)
+        → Filled ss qs line rec' (k + 1) at' (column + place .1)
+    next-filled at' rec' short inside' next e =
+        let w = place .1 in
+        let t = drop at line in
+        let s = getD ss k side.Left in
+        let p = paddedField s w (before t) in
+        let rest = drop (column + w) rec in
+        let n = length qs - suc k in
+        let end : column + w ≤ length rec = next-room in
+        let wide : length p ≡ w = padded-length s w (before t) short in
+        let front-size : length (take column rec ++ p) ≡ column + w = length-append (take column rec) p ∙ rw (wide, length-take-le column rec (omega arith)) in
+        let grouped : rec' ≡ (take column rec ++ p) ++ rest = e ∙ sym (append-assoc (take column rec) p rest) in
+        let front : take (column + w) rec' ≡ take column rec ++ p = ap (take (column + w)) grouped ∙ take-at (take column rec ++ p) rest (column + w) front-size in
+        let size : length rec' ≡ length rec = ap length grouped ∙ length-append (take column rec ++ p) rest ∙ rw (front-size, length-drop (column + w) rec) (omega arith) in
+        let whole : column + columnsOf (drop k qs) ≡ length rec = f .room in
+        let next-side : drop k ss ≡ s ∷ drop (suc k) ss = drop-cons ss k side.Left (omega arith) in
+        let later = joined (paddedFields (drop (suc k) ss) (drop (suc k) qs) (split n (drop at' line))) in
+        let first : joined (paddedFields (drop k ss) (drop k qs) (split (length qs - k) t)) ≡ p ++ later = rw (next-side, next-place, left) (field-first place (drop (suc k) qs) n t s (drop (suc k) ss) (drop at' line) next) in
+        rw (add-one k)
+        record {
+          inside = inside';
+          some = h;
+          room = omega (arith, rw next-place at whole, size);
+          fit = f .fit ∙ rw (next-place, left) (fits-here place (drop (suc k) qs) n t (drop at' line) short next);
+          is = f .is ∙ ap (λ (l : List ℕ). take column rec ++ l) first ∙ sym (append-assoc (take column rec) p later) ∙ ap (λ (l : List ℕ). l ++ later) (sym front);
+        }
+
+    -- So it is with a part of the record that was written over.
+    pub part-filled : (at' w : ℕ) (s : Side) (field part : List ℕ) → w ≡ place .1 → s ≡ getD ss k side.Left → field ≡ before (drop at line) → length field ≤ w
+        → at' ≤ length line → drop at' line ≡ behind (drop at line)
+        → part ≡ paddedField s (length (take (column + w - column) (drop column rec))) field
+        → Filled ss qs line (take column rec ++ (part ++ drop (column + w - column) (drop column rec))) (k + 1) at' (column + w)
+    part-filled at' w s field part ew es ef short inside' next ep =
+        let end : column + w ≤ length rec = rw ew next-room in
+        let m : column + w - column ≡ w = add-sub-cancel-left column w in
+        let wide : length (take w (drop column rec)) ≡ w = length-take-le w (drop column rec) (omega (arith, length-drop column rec)) in
+        let same : part ≡ paddedField (getD ss k side.Left) (place .1) (before (drop at line)) = ep ∙ rw (m, wide, es, ef, ew) in
+        let short' : length (before (drop at line)) ≤ place .1 = rw (← ef, ← ew) short in
+        rw (m, drop-drop w column rec, same, ew) (next-filled at' _ short' inside' next refl)

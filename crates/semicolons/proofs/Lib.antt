@@ -1,0 +1,13 @@
+pub mod PadLaws
+pub mod LineLaws
+pub mod PieceLaws
+pub mod FieldPieces
+pub mod TextPieces
+pub mod KindPieces
+pub mod WidthLaws
+pub mod SizeLaws
+pub mod CountLaws
+pub mod MarkLaws
+pub mod FillLaws
+pub mod OutLaws
+pub mod Examples

@@ -1,0 +1,47 @@
+// The marks of a line: semicolons and the line feed.
+ghost use mathlib.Core.Path.{_≡_};
+ghost use Prim.Native.Nat.{_≤_, _+_};
+ghost use lib.Dec.{eqb};
+ghost use lib.ListN.{length, take, drop};
+ghost use Rattle.columns.specs.Texts.{howMany};
+ghost use Rattle.semicolons.specs.Lines.{isMark, before, behind};
+
+// How many bytes of a line are the given one.
+pub fn count(line: &[u8], mark: u8) -> usize
+    ensures { λ r. ⌜ r ≡ howMany (λ c. eqb c mark) (now (line .entry)) ⌝ }
+{
+    let mut n: usize = 0;
+    let mut i: usize = 0;
+    while i < line.len() {
+        let c = line[i];
+        i += 1;
+        if c == mark {
+            n += 1;
+        }
+    }
+    n
+}
+
+// A field ends before it.
+pub(crate) fn is_mark(c: u8) -> bool
+    ensures { λ r. ⌜ r ≡ isMark c ⌝ }
+{
+    if c == b';' {
+        return true;
+    }
+    c == 10
+}
+
+// How many bytes stand before the first mark of a text; behind it the next field begins.
+pub fn field_length(s: &[u8]) -> usize
+    ensures { λ r. ⌜ (r ≤ length (now (s .entry))) × (before (now (s .entry)) ≡ take r (now (s .entry))) × (behind (now (s .entry)) ≡ drop (r + 1) (now (s .entry))) ⌝ }
+{
+    let mut i: usize = 0;
+    while i < s.len() {
+        if is_mark(s[i]) {
+            return i;
+        }
+        i += 1;
+    }
+    i
+}
