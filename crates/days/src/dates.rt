@@ -13,7 +13,7 @@ ghost use lib.ListN.{length};
 ghost use Rattle.columns.specs.Sets.{isDigit};
 ghost use Rattle.columns.specs.Texts.{every, sized};
 ghost use Rattle.numerals.specs.Numbers.{number};
-ghost use Rattle.days.specs.Dates.{within, dateRule, dateIn, dateOf, dayOf, spellDate, dayGood, dayFits, spellDay};
+ghost use Rattle.days.specs.Dates.{within, dateRule, dateIn, dateOf, dayOf, spellDate, dayGood, dayFits, spellDay, dateGood, dateFits};
 
 // A day of the calendar as it is filed.
 pub struct Date {
@@ -112,6 +112,17 @@ pub fn is_day(s: &[u8]) -> bool
     }
 }
 
+// A date is there, as the header asks.
+pub fn is_dated(s: &[u8]) -> bool
+    ensures { λ r. ⌜ r ≡ dateGood (now (s .entry)) ⌝ }
+{
+    match read_date(s) {
+        Dated::Bad => false,
+        Dated::Blank => false,
+        Dated::Filled(_) => true,
+    }
+}
+
 // The date that is there, blank where there is none.
 pub fn day_in(s: &[u8]) -> Day
     ensures { λ r. ⌜ r ≡ dayOf (now (s .entry)) ⌝ }
@@ -139,6 +150,16 @@ pub fn fits_day(v: Day) -> bool
 {
     match v {
         Day::Blank => true,
+        Day::Filled(d) => is_date(d),
+    }
+}
+
+// Whether a date can stand where it may not be left out.
+pub fn fits_date(v: Day) -> bool
+    ensures { λ r. ⌜ r ≡ dateFits v ⌝ }
+{
+    match v {
+        Day::Blank => false,
         Day::Filled(d) => is_date(d),
     }
 }

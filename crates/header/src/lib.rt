@@ -2,11 +2,9 @@
 use days::dates::Day;
 use serials::Serial;
 
-pub mod judging;
+pub mod empty;
 pub mod places;
-pub mod reading;
-mod values;
-pub mod writing;
+pub mod typed;
 
 // The header of a file, field by field.
 pub struct Header {

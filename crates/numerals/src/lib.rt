@@ -98,6 +98,13 @@ pub fn amount_of(w: Whole) -> u64
     }
 }
 
+// The whole number that is there, 0 where there is none.
+pub fn amount_in(s: &[u8]) -> u64
+    ensures { λ r. ⌜ r ≡ amount (wholeOf (now (s .entry))) ⌝ }
+{
+    amount_of(read_whole(s))
+}
+
 // v, or -v.
 fn with_sign(minus: bool, v: u64) -> i64
     requires { ⌜ v < 10 ^ 18 ⌝ }

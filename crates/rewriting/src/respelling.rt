@@ -2,8 +2,8 @@
 use basics::Outcome;
 use basics::outcomes::is_done;
 use files::lengths::RECORD_LENGTH;
-use header::reading::read_header;
-use header::writing::write_header;
+use header_reading::typed::read_header;
+use header_writing::write_header;
 use reading::typed::read_station;
 use writing::write_station;
 ghost use mathlib.Core.Path.{_≡_};

@@ -8,7 +8,7 @@ use basics::outcomes::is_done;
 use files::lengths::check_file;
 use files::lengths::record_in;
 use files::lengths::stations_in;
-use header::judging::filed_header_code;
+use header_judging::filed_header_code;
 ghost use mathlib.Core.Path.{_≡_};
 ghost use mathlib.Core.List.{_++_};
 ghost use Prim.Native.Nat.{_*_};

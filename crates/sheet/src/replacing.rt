@@ -9,7 +9,7 @@ use basics::outcomes::is_done;
 use columns::texts::equal;
 use files::lengths::RECORD_LENGTH;
 use files::lengths::stations_in;
-use header::judging::filed_header_code;
+use header_judging::filed_header_code;
 use stations::reference;
 ghost use mathlib.Core.Path.{_≡_};
 ghost use mathlib.Core.List.{_++_};
