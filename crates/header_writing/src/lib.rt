@@ -15,7 +15,7 @@ ghost use Rattle.header_writing.specs.Promises.{HeaderWritten};
 mod groups;
 
 // Writes a header that breaks no rule.
-fn put_header(h: Header, s: &mut [u8])
+pub fn put_header(h: Header, s: &mut [u8])
     requires { ⌜ (length (now s) ≡ 219) × (typedHeaderCode h ≡ 0) ⌝ }
     ensures { λ _. ⌜ now (s .exit) ≡ spellHeader h ⌝ }
 {

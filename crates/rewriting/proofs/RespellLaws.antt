@@ -49,19 +49,34 @@ module _ {A : Type 0} (k : ℕ) (v empty : A) (typed : A → ℕ) (spell : A →
     pub reading-refused : {o : Outcome} → o ≡ ending r k outcome.RecordLength → done o ≡ false → Ends o out
     reading-refused e f = left (e ∙ passes outcome.RecordLength (ruleTest k ∷ []) (none .0) ∙ sym rule-left) f
 
-    -- and what was read of any other is written.
-    pub value-written : {o w : Outcome} {s : A} {after : List ℕ} → o ≡ ending r k outcome.RecordLength → done o ≡ true
-        → s ≡ ifDone (ending r k outcome.RecordLength) v empty → w ≡ ending out (typed s) outcome.BufferLength
-        → after ≡ ifDone (ending out (typed s) outcome.BufferLength) (spell s) out → Ends w after
-    unfolding refusal
-    value-written {o} {w} {s} e d es ew ea =
-        let yes : done (ending r k outcome.RecordLength) ≡ true = ap done (sym e) ∙ d in
-        let all = accepted r k outcome.RecordLength refl yes in
-        let own : s ≡ v = es ∙ if-done (ending r k outcome.RecordLength) v empty yes in
-        let size : length out ≡ recordLength = eqb-true (length out) recordLength (not-false _ (none .1 .0)) in
-        let done-writing : ending out (typed s) outcome.BufferLength ≡ outcome.Done = taken out (typed s) outcome.BufferLength size (ap typed own ∙ fits (all .0) (all .1)) in
-        let done-all : respelling k r out ≡ outcome.Done = rule-left ∙ passes (outcome.RuleBroken k) [] (rw (eq-eqb k 0 (all .1))) ∙ none-left in (
-          ew ∙ done-writing ∙ sym done-all,
-          ea ∙ ap (λ (x : Outcome). ifDone x (spell s) out) done-writing ∙ if-done outcome.Done (spell s) out refl ∙ ap spell own
-              ∙ sym (ap (λ (x : Outcome). ifDone x (spell v) out) done-all ∙ if-done outcome.Done (spell v) out refl),
-        )
+    -- and what was read of any other fits, and may be written:
+    module _ {o : Outcome} {s : A} (e : o ≡ ending r k outcome.RecordLength) (d : done o ≡ true) (es : s ≡ ifDone (ending r k outcome.RecordLength) v empty) where
+      yes : done (ending r k outcome.RecordLength) ≡ true
+      yes = ap done (sym e) ∙ d
+
+      all : (length r ≡ recordLength) × (k ≡ 0)
+      unfolding refusal
+      all = accepted r k outcome.RecordLength refl yes
+
+      own : s ≡ v
+      own = es ∙ if-done (ending r k outcome.RecordLength) v empty yes
+
+      pub may-write : (length out ≡ recordLength) × (typed s ≡ 0)
+      may-write = (eqb-true (length out) recordLength (not-false _ (none .1 .0)), ap typed own ∙ fits (all .0) (all .1))
+
+      done-all : respelling k r out ≡ outcome.Done
+      done-all = rule-left ∙ passes (outcome.RuleBroken k) [] (rw (eq-eqb k 0 (all .1))) ∙ none-left
+
+      -- by one that does not judge it,
+      pub value-put : {after : List ℕ} → after ≡ spell s → Ends outcome.Done after
+      unfolding refusal
+      value-put ea = (sym done-all, ea ∙ ap spell own ∙ sym (ap (λ (x : Outcome). ifDone x (spell v) out) done-all ∙ if-done outcome.Done (spell v) out refl))
+
+      -- or by one that does.
+      pub value-written : {w : Outcome} {after : List ℕ} → w ≡ ending out (typed s) outcome.BufferLength
+          → after ≡ ifDone (ending out (typed s) outcome.BufferLength) (spell s) out → Ends w after
+      unfolding refusal
+      value-written ew ea =
+          let written : ending out (typed s) outcome.BufferLength ≡ outcome.Done = taken out (typed s) outcome.BufferLength (may-write .0) (may-write .1) in
+          let put = value-put (ea ∙ ap (λ (x : Outcome). ifDone x (spell s) out) written ∙ if-done outcome.Done (spell s) out refl) in
+          (ew ∙ written ∙ put .0, put .1)

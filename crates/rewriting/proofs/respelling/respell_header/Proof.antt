@@ -1,4 +1,4 @@
--- `rewriting::respelling::respell_header` meets its contract: what is read from an accepted record is never refused by the writer.
+-- `rewriting::respelling::respell_header` meets its contract: what is read from an accepted record breaks no rule and may be written.
 use denote.Ref.{now}
 use mathlib.Core.Path.{sym, _∙_}
 use borrow.Author.Tests.{not-true, not-false}
@@ -6,10 +6,10 @@ use Rattle.basics.proofs.RefusalLaws.{went-on}
 use Rattle.header.specs.Values.{emptyHeader}
 use Rattle.header.specs.Spelling.{spellHeader}
 use Rattle.header.specs.Codes.{headerValue, headerCode, typedHeaderCode}
-use Rattle.header.specs.Calls.{readHeaderOutcome, readHeader, writeHeaderOutcome, writtenHeader}
+use Rattle.header.specs.Calls.{readHeaderOutcome, readHeader}
 use Rattle.header.proofs.RoundTrip.{read-fits}
 use Rattle.rewriting.specs.Records.{respellHeaderOutcome, respelledHeader}
-use Rattle.rewriting.proofs.RespellLaws.{lengths-passed, lengths-refused, reading-refused, value-written}
+use Rattle.rewriting.proofs.RespellLaws.{lengths-passed, lengths-refused, reading-refused, may-write, value-put}
 use borrow.Author.Needs.{needs}
 use Rattle.rewriting.proofs.respelling.respell_header.Statement.{statement}
 use Rattle.rewriting.proofs.respelling.respell_header.Tie as tie
@@ -47,21 +47,26 @@ returns-2 c =
     let none = lengths-passed r (now (a .out)) (went-on (c .before .before .before .before .before .check-lengths .ensures) (c .before .before .before .before .is-done .ensures) (c .before .before .before .if1 .left)) in
     reading-refused (headerCode r) (headerValue r) emptyHeader typedHeaderCode spellHeader r (now (a .out)) (read-fits r) none (c .before .before .read-header .ensures .0) (sym (c .before .is-done2 .ensures) ∙ not-true _ (c .if2 .taken))
 
-write-header-requires : tie.Need-write-header-requires
-write-header-requires c κs = search needs
+put-header-requires : tie.Need-put-header-requires
+unfolding readHeaderOutcome readHeader
+put-header-requires c κs =
+    let a = c .before .before .before .before .before .before .before .before .before .before .before .args in
+    let r = now (a .rec) in
+    let none = lengths-passed r (now (a .out)) (went-on (c .before .before .before .before .before .before .before .check-lengths .ensures) (c .before .before .before .before .before .before .is-done .ensures) (c .before .before .before .before .before .if1 .left)) in
+    let read = c .before .before .before .before .read-header .ensures in
+    may-write (headerCode r) (headerValue r) emptyHeader typedHeaderCode spellHeader r (now (a .out)) (read-fits r) none (read .0) (sym (c .before .before .before .is-done2 .ensures) ∙ not-false _ (c .before .before .if2 .left)) (read .1)
 
 same-length-3 : tie.Need-same-length-3
 same-length-3 c = search needs
 
 returns-3 : tie.Need-returns-3
-unfolding respellHeaderOutcome respelledHeader readHeaderOutcome readHeader writeHeaderOutcome writtenHeader
+unfolding respellHeaderOutcome respelledHeader readHeaderOutcome readHeader
 returns-3 c =
     let a = c .before .before .before .before .before .before .before .before .before .before .before .before .before .before .args in
     let r = now (a .rec) in
     let none = lengths-passed r (now (a .out)) (went-on (c .before .before .before .before .before .before .before .before .before .before .check-lengths .ensures) (c .before .before .before .before .before .before .before .before .before .is-done .ensures) (c .before .before .before .before .before .before .before .before .if1 .left)) in
     let read = c .before .before .before .before .before .before .before .read-header .ensures in
-    let written = c .before .before .write-header .ensures in
-    value-written (headerCode r) (headerValue r) emptyHeader typedHeaderCode spellHeader r (now (a .out)) (read-fits r) none (read .0) (sym (c .before .before .before .before .before .before .is-done2 .ensures) ∙ not-false _ (c .before .before .before .before .before .if2 .left)) (read .1) (written .0) (written .1)
+    value-put (headerCode r) (headerValue r) emptyHeader typedHeaderCode spellHeader r (now (a .out)) (read-fits r) none (read .0) (sym (c .before .before .before .before .before .before .is-done2 .ensures) ∙ not-false _ (c .before .before .before .before .before .if2 .left)) (read .1) (c .before .before .put-header .ensures)
 
 pub respell-header-spec : {M : Type 1} → statement M
 respell-header-spec =
@@ -75,6 +80,6 @@ respell-header-spec =
     is-done-requires-2
     same-length-2
     returns-2
-    write-header-requires
+    put-header-requires
     same-length-3
     returns-3)
