@@ -1,6 +1,6 @@
 -- Lists of rules: all hold exactly where none is broken, over any lists.
 use mathlib.Core.Path.{_≡_, refl, sym, _∙_}
-use mathlib.Core.Bool.{Bool, true, false}
+use mathlib.Core.Bool.{Bool, true, false, false≢true}
 use mathlib.Core.List.{List, [], _∷_, _++_}
 use Prim.Native.Nat.{ℕ, zero, suc, _+_, _-_, _≤_, _<_}
 use native.Mathlib.Numerals.{add-one}
@@ -30,6 +30,24 @@ rule rules h k = at-place rules h (k - 1) where
   at-place [] h i = refl
   at-place (x ∷ rules) h zero = h .0
   at-place (x ∷ rules) h (suc i) = at-place rules (h .1) i
+
+-- no code is given from before the first rule's,
+none-before : (k j : ℕ) (rules : List Bool) → j < k → firstBroken (suc k) rules ≡ suc j → ⊥
+unfolding firstBroken
+none-before k j [] h e = omega arith
+none-before k j (true ∷ rules) h e = none-before (suc k) j rules (omega arith) e
+none-before k j (false ∷ rules) h e = omega arith
+
+-- and none of a rule that holds
+pub never-given : (k i : ℕ) (rules : List Bool) → getD rules i true ≡ true → firstBroken (suc k) rules ≡ suc (k + i) → ⊥
+unfolding firstBroken
+never-given k i [] h e = omega arith
+never-given k zero (true ∷ rules) h e = none-before (suc k) (k + 0) rules (omega arith) e
+never-given k (suc i) (true ∷ rules) h e =
+    let n : suc (k + suc i) ≡ suc (suc k + i) = omega arith in
+    never-given (suc k) i rules h (e ∙ n)
+never-given k zero (false ∷ rules) h e = absurd (false≢true h)
+never-given k (suc i) (false ∷ rules) h e = omega arith
 
 -- rules of two lists
 pub all-append : (xs ys : List Bool) → All xs → All ys → All (xs ++ ys)

@@ -6,7 +6,7 @@ use Prim.Native.Nat.{ℕ, suc, _-_}
 use Prim.Native.String.{String}
 use native.Mathlib.Omega.{arith}
 use lib.Dec.{eqb, leb}
-use lib.ListN.{length}
+use lib.ListN.{length, replicate, length-replicate}
 use lib.IntN.{ℤ}
 use borrow.Author.Tests.{eqb-true, leb-true}
 use Rattle.columns.specs.Texts.{bytes, blank, trimmed, every, oneOf, sized}
@@ -19,7 +19,7 @@ use Rattle.basics.specs.Fields.{at}
 use Rattle.frequencies.specs.Frequencies.{spellAmount, spellUnit, frequencyFits}
 use Rattle.emissions.specs.Emission.{emissionGood}
 use Rattle.remarks.specs.Remarks.{remarksGood}
-use Rattle.fields.specs.Kinds.{TextRule, places, word, leftText, literal, emission, Kind, amount, unit, byte, choice, text, remarks, date, dateOrBlank, tenths, kilometres, metres, metresOrBlank, position, whole, wholeOrBlank, Meaning, textKeeps, meaning}
+use Rattle.fields.specs.Kinds.{TextRule, places, word, leftText, literal, emission, Kind, amount, unit, byte, choice, text, dropped, remarks, date, dateOrBlank, tenths, kilometres, metres, metresOrBlank, position, whole, wholeOrBlank, Meaning, textKeeps, meaning}
 use Rattle.frequencies.proofs.FrequencyColumns.{frequency-pair}
 use Rattle.formats.proofs.TenthsColumn.{tenths-column}
 use Rattle.distances.proofs.DistanceColumns.{radius-column, ground-column, height-column}
@@ -97,6 +97,7 @@ asWide unit w = eqb 1 w
 asWide (byte first set) w = eqb 1 w
 asWide (choice xs) w = allSized w xs
 asWide (text rule) w = textWide rule w
+asWide (dropped rule) w = textKeeps rule w (replicate w 32)
 asWide remarks w = eqb 50 w
 asWide date w = eqb 8 w
 asWide dateOrBlank w = eqb 8 w
@@ -125,6 +126,10 @@ pub remarks-wide : (p : List ℕ) → remarksGood p ≡ true → length p ≡ 50
 unfolding remarksGood
 remarks-wide p e = width-first 50 p _ e
 
+-- a text that is not kept: spaces keep its rule
+pub dropped-column : (rule : TextRule) (w : ℕ) → textKeeps rule w (replicate w 32) ≡ true → Column {A = Unit {0}} w (textKeeps rule w) (λ p. tt) (λ v. true) (λ v. replicate w 32)
+dropped-column rule w s = record { wide = λ v e. length-replicate w 32; kept = λ v e. s; back = λ v e j. tt; read = λ p l e. refl }
+
 -- Each kind keeps the laws in as many columns.
 abbrev pub lawful : (k : Kind) (w : ℕ) → asWide k w ≡ true → Lawful w (meaning k w)
 lawful amount w s = amount-lawful w (eqb-true 11 w s)
@@ -132,6 +137,7 @@ lawful unit w s = unit-lawful w (eqb-true 1 w s)
 lawful (byte first set) w s = stands-alone (byte-column set) (eqb-true 1 w s)
 lawful (choice xs) w s = stands-alone (text-column w (oneOf xs) (λ p e. one-sized w xs p (all-sized w xs s) e)) refl
 lawful (text rule) w s = stands-alone (text-column w (textKeeps rule w) (text-wide rule w s)) refl
+lawful (dropped rule) w s = stands-alone (dropped-column rule w s) refl
 lawful remarks w s = stands-alone (text-column 50 remarksGood remarks-wide) (eqb-true 50 w s)
 lawful date w s = stands-alone date-column (eqb-true 8 w s)
 lawful dateOrBlank w s = stands-alone day-column (eqb-true 8 w s)

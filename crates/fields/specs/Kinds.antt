@@ -40,6 +40,7 @@ pub data Kind : Type 0 where
   byte : Char → (ℕ → Bool) → Kind  -- one byte of a set, in an empty record the one given
   choice : List String → Kind  -- one of these, in an empty record the first
   text : TextRule → Kind
+  dropped : TextRule → Kind  -- a text that is judged and not kept: it says no value, and spaces are written for it
   remarks : Kind  -- 13Z
   date : Kind
   dateOrBlank : Kind
@@ -118,6 +119,7 @@ meaning unit w = record {
 meaning (byte first set) w = alone (byteGood set) head set (λ c. c ∷ []) (code first)
 meaning (choice xs) w = kept (oneOf xs) (firstOf xs)
 meaning (text rule) w = kept (textKeeps rule w) (replicate w 32)
+meaning (dropped rule) w = alone {A = Unit {0}} (textKeeps rule w) (λ p. tt) (λ v. true) (λ v. replicate w 32) tt
 meaning remarks w = kept remarksGood (replicate w 32)
 meaning date w = alone dateGood dayOf dateFits spellDay days.Blank
 meaning dateOrBlank w = alone dayGood dayOf dayFits spellDay days.Blank

@@ -8,7 +8,7 @@ use borrow.Author.Tests.{eqb-true}
 use Rattle.columns.specs.Texts.{blank, trimmed, every, sized}
 use Rattle.decimals.specs.Decimals.{decimalWidth}
 use Rattle.columns.proofs.TextLaws.{and-split}
-use Rattle.fields.specs.Kinds.{TextRule, places, word, leftText, literal, emission, Kind, amount, unit, byte, choice, text, remarks, date, dateOrBlank, tenths, kilometres, metres, metresOrBlank, position, whole, wholeOrBlank, textKeeps, meaning}
+use Rattle.fields.specs.Kinds.{TextRule, places, word, leftText, literal, emission, Kind, amount, unit, byte, choice, text, dropped, remarks, date, dateOrBlank, tenths, kilometres, metres, metresOrBlank, position, whole, wholeOrBlank, textKeeps, meaning}
 use Rattle.fields.specs.Rows.{Row, Values, placesOf, fitsOf, speltOf}
 use Rattle.fields.proofs.KindLaws.{asWide, lawful, text-wide}
 use Rattle.fields.proofs.RowLaws.{sound, row-sound}
@@ -34,6 +34,7 @@ listed unit = true
 listed (byte first set) = refusesMarks set
 listed (choice xs) = allPass opens xs
 listed (text rule) = textListed rule
+listed (dropped rule) = false
 listed remarks = true
 listed date = false
 listed dateOrBlank = true
@@ -61,6 +62,7 @@ kind-piece unit w s r v e = in-columns (unit-piece v) (eqb-true 1 w s)
 kind-piece (byte first set) w s r v e = in-columns (byte-piece set r v e) (eqb-true 1 w s)
 kind-piece (choice xs) w s r v e = open-piece w v ((lawful (choice xs) w s) .wide v e) (one-passes opens xs v r e)
 kind-piece (text rule) w s r v e = text-piece rule w s r v e
+kind-piece (dropped rule) w s r v e = absurd (false≢true r)
 kind-piece remarks w s r v e = in-columns (remarks-piece v e) (eqb-true 50 w s)
 kind-piece date w s r v e = absurd (false≢true r)
 kind-piece dateOrBlank w s r v e = in-columns (day-piece v) (eqb-true 8 w s)

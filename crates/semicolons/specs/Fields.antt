@@ -5,7 +5,7 @@ use mathlib.Core.List.{List, [], _∷_, _++_}
 use lib.ListN.{length, replicate}
 use lib.Dec.{leb}
 use Rattle.columns.specs.Texts.{skip, trimmed}
-use Rattle.fields.specs.Kinds.{Kind, amount, unit, byte, choice, text, remarks, date, dateOrBlank, tenths, kilometres, metres, metresOrBlank, position, whole, wholeOrBlank}
+use Rattle.fields.specs.Kinds.{Kind, amount, unit, byte, choice, text, dropped, remarks, date, dateOrBlank, tenths, kilometres, metres, metresOrBlank, position, whole, wholeOrBlank}
 use Rattle.fields.specs.Rows.{Row}
 use Rattle.fields.specs.Table.{stationTable}
 use Rattle.semicolons.specs.declared.Side.{Side}
@@ -18,6 +18,7 @@ sideOf unit = side.Right
 sideOf (byte first set) = side.Right
 sideOf (choice xs) = side.Right
 sideOf (text rule) = side.Right
+sideOf (dropped rule) = side.Right
 sideOf remarks = side.Kept
 sideOf date = side.Right
 sideOf dateOrBlank = side.Right
