@@ -15,7 +15,6 @@ pub fn empty_header() -> Header
         origin: [b' '; 3],
         mail: [b' '; 40],
         telephone: [b' '; 20],
-        fax: [b' '; 20],
         person: [b' '; 20],
         count: 0,
         date: Day::Blank,

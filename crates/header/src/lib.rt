@@ -6,7 +6,7 @@ pub mod empty;
 pub mod places;
 pub mod typed;
 
-// The header of a file, field by field.
+// The header of a file, field by field; the fax is judged in its record and not kept.
 pub struct Header {
     pub number: u64,
     pub content: [u8; 80],
@@ -14,7 +14,6 @@ pub struct Header {
     pub origin: [u8; 3],
     pub mail: [u8; 40],
     pub telephone: [u8; 20],
-    pub fax: [u8; 20],
     pub person: [u8; 20],
     pub count: u64,
     pub date: Day,

@@ -13,7 +13,7 @@ ghost use Rattle.basics.specs.Rules.{firstBroken};
 ghost use Rattle.header.specs.Rules.{typedHeaderRules};
 ghost use Rattle.header.specs.Promises.{HeaderJudged};
 
-// The first broken code of 1 to 7, what the file is and who sent it; 0 means none.
+// The first broken code of 1 to 7, what the file is and who sent it; 0 means none. A typed header has no fax, so 7 holds.
 fn typed_sender_code(h: Header) -> u8
     ensures { λ r. ⌜ r ≡ firstBroken 1 (take 7 (typedHeaderRules h)) ⌝ }
 {
@@ -21,7 +21,6 @@ fn typed_sender_code(h: Header) -> u8
     let origin = h.origin;
     let mail = h.mail;
     let telephone = h.telephone;
-    let fax = h.fax;
     let rules = [
         fits_whole(2, h.number),
         is_left_text(&content, 80, Set::Text),
@@ -29,7 +28,7 @@ fn typed_sender_code(h: Header) -> u8
         equal(b"AUT", &origin),
         is_left_text(&mail, 40, Set::Mail),
         is_left_text(&telephone, 20, Set::Text),
-        is_left_text(&fax, 20, Set::Text),
+        true,
     ];
     first_broken(&rules, 1)
 }

@@ -24,7 +24,7 @@ pub struct ReadHeader {
     pub header: Header,
 }
 
-// The header that a record says.
+// The header that a record says; columns 147 to 166, the fax, say nothing.
 fn header_in(rec: &[u8]) -> Header
     requires { ⌜ length (now rec) ≡ 219 ⌝ }
     ensures { λ r. ⌜ r ≡ headerValue (now (rec .entry)) ⌝ }
@@ -35,7 +35,6 @@ fn header_in(rec: &[u8]) -> Header
     let origin = text3(&rec[83..86]);
     let mail = text40(&rec[86..126]);
     let telephone = text20(&rec[126..146]);
-    let fax = text20(&rec[146..166]);
     let person = text20(&rec[166..186]);
     let count = amount_in(&rec[186..192]);
     let date = day_in(&rec[192..200]);
@@ -50,7 +49,6 @@ fn header_in(rec: &[u8]) -> Header
         origin,
         mail,
         telephone,
-        fax,
         person,
         count,
         date,

@@ -1,4 +1,5 @@
 // The groups of fields that follow one another in a header's record.
+use columns::texts::write_blank;
 use columns::texts::write_byte;
 use columns::texts::write_text;
 use days::dates::write_day;
@@ -25,7 +26,7 @@ pub(crate) fn put_file(h: Header, s: &mut [u8])
     write_text(&mut s[83..86], &origin);
 }
 
-// Fields 5 to 8, columns 87 to 186: who sent it.
+// Fields 5 to 8, columns 87 to 186: who sent it, and spaces for the fax.
 pub(crate) fn put_sender(h: Header, s: &mut [u8])
     requires { ⌜ length (now s) ≡ 100 ⌝ }
     ensures { λ _. ⌜ now (s .exit) ≡ joined (take 4 (drop 4 (headerPieces h))) ⌝ }
@@ -34,8 +35,7 @@ pub(crate) fn put_sender(h: Header, s: &mut [u8])
     write_text(&mut s[0..40], &mail);
     let telephone = h.telephone;
     write_text(&mut s[40..60], &telephone);
-    let fax = h.fax;
-    write_text(&mut s[60..80], &fax);
+    write_blank(&mut s[60..80]);
     let person = h.person;
     write_text(&mut s[80..100], &person);
 }

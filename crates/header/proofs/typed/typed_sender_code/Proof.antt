@@ -1,14 +1,9 @@
 -- `header::typed::typed_sender_code` meets its contract: each test of the code is a rule of the group.
-use mathlib.Core.Path.{_≡_, sym, _∙_}
-use lib.ListN.{length}
+use mathlib.Core.Path.{_∙_}
 use Rattle.header.specs.Rules.{typedHeaderRules}
 use borrow.Author.Needs.{needs}
 use Rattle.header.proofs.typed.typed_sender_code.Statement.{statement}
 use Rattle.header.proofs.typed.typed_sender_code.Tie as tie
-
--- the last text has the width of its columns
-fax-wide : (s : tie.Start) → length (s .args .h .fax) ≡ 20
-fax-wide s = search needs
 
 fits-whole-requires : tie.Need-fits-whole-requires
 fits-whole-requires c κs = search needs
@@ -40,12 +35,6 @@ slice-aggregate-is-left-text-3 c = search needs
 is-left-text-requires-3 : tie.Need-is-left-text-requires-3
 is-left-text-requires-3 c κs = search needs
 
-slice-aggregate-is-left-text-4 : tie.Need-slice-aggregate-is-left-text-4
-slice-aggregate-is-left-text-4 c = sym (fax-wide (c .before .before .before .before .before .before .before .before .before .before .before .before .before .before .before .before .before))
-
-is-left-text-requires-4 : tie.Need-is-left-text-requires-4
-is-left-text-requires-4 c κs = search needs
-
 slice-aggregate-first-broken : tie.Need-slice-aggregate-first-broken
 slice-aggregate-first-broken c = search needs
 
@@ -57,12 +46,11 @@ unfolding typedHeaderRules
 returns c =
     c .first-broken .ensures
     ∙ rw (
-      c .before .before .before .before .before .before .before .before .before .before .before .before .before .before .fits-whole .ensures,
-      c .before .before .before .before .before .before .before .before .before .before .before .before .is-left-text .ensures,
-      c .before .before .before .before .before .before .before .before .equal .ensures,
-      c .before .before .before .before .before .before .is-left-text2 .ensures,
-      c .before .before .before .before .is-left-text3 .ensures,
-      c .before .before .is-left-text4 .ensures,
+      c .before .before .before .before .before .before .before .before .before .before .before .before .fits-whole .ensures,
+      c .before .before .before .before .before .before .before .before .before .before .is-left-text .ensures,
+      c .before .before .before .before .before .before .equal .ensures,
+      c .before .before .before .before .is-left-text2 .ensures,
+      c .before .before .is-left-text3 .ensures,
     )
 
 pub typed-sender-code-spec : {M : Type 1} → statement M
@@ -79,8 +67,6 @@ typed-sender-code-spec =
     is-left-text-requires-2
     slice-aggregate-is-left-text-3
     is-left-text-requires-3
-    slice-aggregate-is-left-text-4
-    is-left-text-requires-4
     slice-aggregate-first-broken
     first-broken-requires
     returns)

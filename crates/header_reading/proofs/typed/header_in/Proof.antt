@@ -95,18 +95,6 @@ part-text20-end-2 c = search needs
 text20-requires-2 : tie.Need-text20-requires-2
 text20-requires-2 c κs = search needs
 
-sub-text20-3 : tie.Need-sub-text20-3
-sub-text20-3 c = search needs
-
-part-text20-start-3 : tie.Need-part-text20-start-3
-part-text20-start-3 c = search needs
-
-part-text20-end-3 : tie.Need-part-text20-end-3
-part-text20-end-3 c = search needs
-
-text20-requires-3 : tie.Need-text20-requires-3
-text20-requires-3 c κs = search needs
-
 sub-amount-in-2 : tie.Need-sub-amount-in-2
 sub-amount-in-2 c = search needs
 
@@ -174,7 +162,7 @@ part-text7-start : tie.Need-part-text7-start
 part-text7-start c = search needs
 
 part-text7-end : tie.Need-part-text7-end
-part-text7-end c = omega (arith, c .before .before .before .before .before .before .before .before .before .before .before .before .before .before .before .before .before .before .before .before .before .before .before .before .before .before .before .pre)
+part-text7-end c = omega (arith, c .before .before .before .before .before .before .before .before .before .before .before .before .before .before .before .before .before .before .before .before .before .before .before .before .before .pre)
 
 text7-requires : tie.Need-text7-requires
 text7-requires c κs = search needs
@@ -189,8 +177,7 @@ returns c =
     let date = destination .before .before in
     let count = date .before .before in
     let person = count .before .before in
-    let fax = person .before .before in
-    let telephone = fax .before .before in
+    let telephone = person .before .before in
     let mail = telephone .before .before in
     let origin = mail .before .before in
     let letter = origin .before .before in
@@ -205,8 +192,7 @@ returns c =
       origin = (origin .text3 .ensures ∙ text-there 3 83 r (omega arith)) k;
       mail = (mail .text40 .ensures ∙ text-there 40 86 r (omega arith)) k;
       telephone = (telephone .text20 .ensures ∙ text-there 20 126 r (omega arith)) k;
-      fax = (fax .text202 .ensures ∙ text-there 20 146 r (omega arith)) k;
-      person = (person .text203 .ensures ∙ text-there 20 166 r (omega arith)) k;
+      person = (person .text202 .ensures ∙ text-there 20 166 r (omega arith)) k;
       count = count .amount-in2 .ensures k;
       date = date .day-in .ensures k;
       destination = (destination .text32 .ensures ∙ text-there 3 200 r (omega arith)) k;
@@ -247,10 +233,6 @@ header-in-spec =
     part-text20-start-2
     part-text20-end-2
     text20-requires-2
-    sub-text20-3
-    part-text20-start-3
-    part-text20-end-3
-    text20-requires-3
     sub-amount-in-2
     part-amount-in-start-2
     part-amount-in-end-2
