@@ -100,7 +100,8 @@ uint8_t desk_respell_station(const uint8_t *record, size_t record_length,
                              uint8_t *out, size_t out_length, uint8_t *code);
 
 /*
- * Reads a header and writes it into `out` in the one spelling.
+ * Reads a header and writes it into `out` in the one spelling. The fax, columns 147 to 166, is judged and
+ * not kept: spaces are written there, whatever the record has.
  * Refusals: 6 (record), 7 (out), 9.
  */
 uint8_t desk_respell_header(const uint8_t *record, size_t record_length,

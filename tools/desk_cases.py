@@ -188,6 +188,7 @@ def cases():
     yield "count_of_another_file", *filing(twice, head=15, count=3)
     for code in BROKEN_HEADER:
         yield "header_code_%02d" % code, *filing([], head=code)
+    yield "header_with_a_fax", header(0, {"fax": "+43 1 5550199".ljust(20)}), report(0, [])
     yield "header_and_stations_broken", *filing([station(1, code=17), station(2), station(3, code=30)], head=3)
     yield "days_of_the_calendar", *dated("29022024", 0)
     yield "header_date_of_no_day", *dated("30022024", 10)

@@ -151,7 +151,7 @@ def vectors():
     for b in (b"", S[:218], S + b" ", b" " * 219, b"\0" * 219, b"\xff" * 219, b"0" * 219):
         yield "S", b
     yield "H", H
-    yield "H", put(HEADER, H, 10, "29022024")
+    yield "H", put(HEADER, put(HEADER, H, 10, "29022024"), 7, "+43 1 5550199")
     for k, texts in HEADER_BROKEN.items():
         for t in texts:
             yield "H", put(HEADER, H, k, t)

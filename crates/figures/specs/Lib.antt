@@ -3,3 +3,4 @@ pub mod Figures
 pub mod Worked
 pub mod Typed
 pub mod Days
+pub mod Faxes

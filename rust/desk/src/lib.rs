@@ -139,17 +139,20 @@ pub fn respell_station(record: &[u8], out: &mut [u8]) -> Result<(), Refusal> {
     answer(refusal, code, ())
 }
 
-/// Writes the header of a record into `out` in the one spelling. Refusals: 6, 7, 9.
+/// Writes the header of a record into `out` in the one spelling; its fax is judged and not kept, and
+/// spaces are written for it. Refusals: 6, 7, 9.
 ///
 /// ```
 /// let mut header = [b' '; 219];
 /// header[..2].copy_from_slice(b" 1");
 /// header[82..86].copy_from_slice(b"OAUT");
+/// header[146..154].copy_from_slice(b"+43 1 55");
 /// header[186..203].copy_from_slice(b"     002012024AUT");
 /// header[209..212].copy_from_slice(b"1.0");
 /// let mut out = [0; 219];
 /// desk::respell_header(&header, &mut out)?;
 /// assert_eq!((&out[..2], &out[186..192]), (&b"01"[..], &b"000000"[..]));
+/// assert_eq!(out[146..166], [b' '; 20]);
 /// # Ok::<(), desk::Refusal>(())
 /// ```
 pub fn respell_header(record: &[u8], out: &mut [u8]) -> Result<(), Refusal> {

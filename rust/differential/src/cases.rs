@@ -1,10 +1,16 @@
 //! Single records: one made record a case, given to the calls that take one.
 
+use peer::{Record, HEADER_FIELDS};
+
 use crate::calls::{
     Comparison, HEADER_CODE, RESPELL_HEADER, RESPELL_STATION, SETTERS, STATION_CODE,
 };
+use crate::fields;
 use crate::random::Random;
 use crate::records;
+
+/// The number of the header's fax.
+const FAX: usize = 7;
 
 /// Numbers at the borders of what the set fields can spell.
 const BORDER_VALUES: [i64; 24] = [
@@ -64,8 +70,25 @@ fn header(comparison: &mut Comparison, random: &mut Random, target: usize) {
     comparison.check(&HEADER_CODE, &bytes);
     let out = buffer(random);
     comparison.rewrite(&RESPELL_HEADER, &bytes, &out);
+    other_fax(comparison, random, &record);
     if random.one_in(16) {
         comparison.check(&STATION_CODE, &bytes);
+    }
+}
+
+/// A header and one that differs from it in the fax alone: where both are accepted they are
+/// rewritten to one record, and its fax is blank.
+fn other_fax(comparison: &mut Comparison, random: &mut Random, header: &Record) {
+    let fax = fields::good_header(random, FAX, 0);
+    let mut other = *header;
+    records::put(&mut other, &HEADER_FIELDS, FAX, &fax);
+    let lent = [random.byte(); 219];
+    let first = comparison.rewrite(&RESPELL_HEADER, header, &lent);
+    let second = comparison.rewrite(&RESPELL_HEADER, &other, &lent);
+    if peer::header_code(header) == 0 {
+        assert_eq!(first, second, "two headers that differ in their fax alone");
+        let [column, length] = HEADER_FIELDS[FAX - 1];
+        assert_eq!(first[column - 1..][..length], [b' '; 20], "the fax of a rewritten header");
     }
 }
 

@@ -6,7 +6,8 @@ use crate::rules::holds;
 use crate::values::Date;
 use crate::{reading, rules, spelling};
 
-/// A header with its numbers and date as values and all else as its bytes.
+/// A header with its numbers and date as values and all else as its bytes. It has no fax: that is
+/// judged in its columns, by rule 7, and then dropped (wish 10 of 02).
 #[derive(Clone, Copy, Debug, PartialEq, Eq)]
 pub struct Header {
     /// 1: the file's number on its medium.
@@ -21,8 +22,6 @@ pub struct Header {
     pub email: [u8; 40],
     /// 6: the telephone number.
     pub telephone: [u8; 20],
-    /// 7: the fax number.
-    pub fax: [u8; 20],
     /// 8: the person responsible.
     pub person: [u8; 20],
     /// 9: the count of stations.
@@ -62,7 +61,6 @@ impl Header {
         origin: [b' '; 3],
         email: [b' '; 40],
         telephone: [b' '; 20],
-        fax: [b' '; 20],
         person: [b' '; 20],
         count: 0,
         date: None,
@@ -87,7 +85,7 @@ impl Header {
         Ok(())
     }
 
-    /// The code of the first of the rules 1 to 14 that the typed header breaks, or 0.
+    /// The code of the first of the rules 1 to 14 that the typed header breaks, or 0; never 7.
     pub fn code(&self) -> u8 {
         self.check().err().unwrap_or(0)
     }
@@ -101,8 +99,10 @@ impl Header {
             origin: kept(record, 4, |text| text == b"AUT")?,
             email: kept(record, 5, rules::email)?,
             telephone: kept(record, 6, rules::text)?,
-            fax: kept(record, 7, rules::text)?,
-            person: kept(record, 8, rules::text)?,
+            person: {
+                holds(7, rules::text(columns::<20>(record, 7)))?;
+                kept(record, 8, rules::text)?
+            },
             count: reading::whole(columns::<6>(record, 9)).ok_or(9)?,
             date: Some(reading::date(columns::<8>(record, 10)).ok_or(10)?),
             destination: kept(record, 11, |text| text == b"AUT")?,
@@ -119,7 +119,6 @@ impl Header {
         holds(4, self.origin == *b"AUT")?;
         holds(5, rules::email(&self.email))?;
         holds(6, rules::text(&self.telephone))?;
-        holds(7, rules::text(&self.fax))?;
         holds(8, rules::text(&self.person))?;
         holds(9, (0..=999_999).contains(&self.count))?;
         holds(10, self.date.is_some_and(rules::date))?;
@@ -136,7 +135,7 @@ impl Header {
         *columns_mut(record, 4) = self.origin;
         *columns_mut(record, 5) = self.email;
         *columns_mut(record, 6) = self.telephone;
-        *columns_mut(record, 7) = self.fax;
+        *columns_mut(record, 7) = [b' '; 20];
         *columns_mut(record, 8) = self.person;
         spelling::digits(columns_mut::<6>(record, 9), self.count.unsigned_abs());
         spelling::optional(columns_mut::<8>(record, 10), self.date, spelling::date);

@@ -1,5 +1,5 @@
-//! Filing files of document 01, and wishes 1 and 2 of 02, written a second time from the papers
-//! alone.
+//! Filing files of document 01, and wishes 1, 2 and 10 of 02, written a second time from the
+//! papers alone.
 //!
 //! A filing file is one header and up to 250 stations, each a record of 219 bytes. This crate
 //! reads and writes records, judges a file into a sheet, replaces a record, shows a field and

@@ -406,6 +406,19 @@ fn refused_readings_stand_for_the_empty_record() {
 }
 
 #[test]
+fn the_fax_is_judged_and_dropped() {
+    let blank = header(2);
+    let mut filled = blank;
+    filled[146..166].copy_from_slice(b"+43 1 5550199       ");
+    assert_eq!(Header::read(&filled), Header::read(&blank));
+    let mut out = [7; 219];
+    assert_eq!(Header::read(&filled).and_then(|header| header.write(&mut out)), Ok(()));
+    assert_eq!(out, blank);
+    filled[146] = b'@';
+    assert_eq!(Header::read(&filled), Err(Refusal::RuleBroken(7)));
+}
+
+#[test]
 fn header_codes() {
     let header = header(2);
     let code = |field, text: &[u8]| header_code(&with(&header, &HEADER_FIELDS, field, text));
