@@ -50,9 +50,9 @@ pub fn respell_header(rec: &[u8], out: &mut [u8]) -> Outcome
         return lengths;
     }
     let read = read_header(rec);
-    let outcome = read.outcome;
-    if !is_done(outcome) {
-        return outcome;
+    let answer = read.outcome;
+    if !is_done(answer) {
+        return answer;
     }
     let header = read.header;
     put_header(header, out);
