@@ -3,3 +3,4 @@ pub mod CallLaws
 pub mod FieldLaws
 pub mod RuleLaws
 pub mod WriteLaws
+pub mod StandLaws

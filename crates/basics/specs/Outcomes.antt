@@ -22,6 +22,10 @@ refusal outcome.NoSuchField = 8
 refusal outcome.NotALine = 10
 refusal outcome.FieldTooLong = 11
 refusal outcome.BufferTooShort = 12
+refusal outcome.OldFormTooMany = 13
+refusal outcome.NotTwelveDigits = 14
+refusal outcome.LastDigitWrong = 15
+refusal outcome.NotMobileDefaults = 16
 refusal (outcome.RuleBroken c) = 9
 
 -- The code that comes with it; with any but 9 it is 0.
@@ -38,6 +42,10 @@ codeWith outcome.NoSuchField = 0
 codeWith outcome.NotALine = 0
 codeWith outcome.FieldTooLong = 0
 codeWith outcome.BufferTooShort = 0
+codeWith outcome.OldFormTooMany = 0
+codeWith outcome.NotTwelveDigits = 0
+codeWith outcome.LastDigitWrong = 0
+codeWith outcome.NotMobileDefaults = 0
 codeWith (outcome.RuleBroken c) = c
 
 -- One value where the call is done, another where it is refused.

@@ -24,5 +24,9 @@ pub enum Outcome {
     NotALine,
     FieldTooLong,
     BufferTooShort,
+    OldFormTooMany,
+    NotTwelveDigits,
+    LastDigitWrong,
+    NotMobileDefaults,
     RuleBroken(u8),
 }

@@ -12,7 +12,8 @@ use Rattle.basics.specs.Outcomes.{refusal, ifDone}
 use Rattle.basics.specs.declared.Place.{Place}
 use Rattle.files.specs.Files.{placesOf}
 use Rattle.files.specs.Calls.{fileTests, numberTest, fieldTest, showOutcome, shownOffset, shownLength}
-use Rattle.files.specs.Promises.{StandsAt, FieldShown}
+use Rattle.basics.specs.Pieces.{StandsAt}
+use Rattle.files.specs.Promises.{FieldShown}
 use Rattle.basics.proofs.RefusalLaws.{done, none-applies}
 use Rattle.files.proofs.LengthLaws.{whole-records}
 use Rattle.files.proofs.PlaceLaws.{places-tile, place-inside}

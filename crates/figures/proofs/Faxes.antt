@@ -2,9 +2,9 @@
 use mathlib.Core.Path.{refl}
 use Rattle.columns.specs.Sets.{among, isText, isMail}
 use Rattle.columns.specs.Texts.{skip, every, each, byteGood, same, textGood}
-use Rattle.columns.specs.Numbers.{leading, numberFrom, wholeDigits, wholeOf, spellDigits}
-use Rattle.columns.specs.Dates.{dateRule, dateIn, dateOf, dayOf, dateGood, spellDate, spellDay}
-use Rattle.fields.specs.Serials.{serialGood, serialOf, spellSerial}
+use Rattle.numerals.specs.Numbers.{leading, numberFrom, wholeDigits, wholeOf, spellDigits}
+use Rattle.days.specs.Dates.{dateRule, dateIn, dateOf, dayOf, dateGood, spellDate, spellDay}
+use Rattle.serials.specs.Serials.{serialGood, serialOf, spellSerial}
 use Rattle.basics.specs.Rules.{firstBroken}
 use Rattle.basics.specs.Outcomes.{refusal, ifDone, firstRefusal}
 use Rattle.files.specs.Files.{stations, recordAt, tooLong, notRecords, placesOf, fieldAt, fieldCount}

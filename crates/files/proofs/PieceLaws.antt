@@ -1,4 +1,4 @@
--- Where a piece that is lent stands: a piece of a piece, a record of its file, and the field that is shown; and how long that is.
+-- Where a record of a file stands, and the field that is shown; and how long that is.
 use mathlib.Core.Path.{_≡_, refl, sym, ap, _∙_}
 use mathlib.Core.Bool.{Bool, true, false}
 use mathlib.Core.List.{List}
@@ -12,23 +12,11 @@ use Rattle.basics.specs.Outcomes.{ifDone}
 use Rattle.basics.specs.declared.Place.{Place}
 use Rattle.files.specs.Files.{recordOffset, placesOf}
 use Rattle.files.specs.Calls.{showOutcome, shownField, shownOffset, shownLength}
-use Rattle.files.specs.Promises.{StandsAt}
+use Rattle.basics.specs.Pieces.{StandsAt}
 use Rattle.basics.proofs.RefusalLaws.{done}
+use Rattle.basics.proofs.StandLaws.{piece-of-piece}
 use Rattle.files.proofs.PlaceLaws.{places-tile, place-inside}
 use Rattle.files.proofs.ShowLaws.{shown-there, shown-at}
-
--- A part that is cut off at a place stands there,
-pub cut-at : (b o i a : ℕ) → i ≡ a → _≡_ {A = ℕ × ℕ} (b, i + o) (b, o + a)
-cut-at b o i a e = ap (λ (x : ℕ). (b, x)) (omega arith)
-
--- one from the front on at the front,
-pub front-at : (file : RefT (List ℕ)) (a : ℕ) → 0 ≡ a → ptr file ≡ (ptr file .0, ptr file .1 + a)
-front-at file a e = ap (λ (x : ℕ). (ptr file .0, x)) (omega arith)
-
--- and a piece of a piece at both places together.
-pub piece-of-piece : (whole part piece : RefT (List ℕ)) (a b : ℕ) → StandsAt whole a part → StandsAt part b piece → StandsAt whole (a + b) piece
-piece-of-piece whole part piece a b p q =
-    q ∙ ap (λ (w : ℕ × ℕ). (w .0, w .1 + b)) p ∙ ap (λ (o : ℕ). (ptr whole .0, o)) (omega arith)
 
 module _ (file : List ℕ) (k : ℕ) where
   -- A record begins after the records before it,

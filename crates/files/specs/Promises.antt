@@ -1,18 +1,15 @@
 -- What the calls on files promise, as relations between what they are given and their answers.
-use Prim.Native.Nat.{ℕ, _+_}
+use Prim.Native.Nat.{ℕ}
 use mathlib.Core.Path.{_≡_}
 use mathlib.Core.List.{List}
-use denote.Ref.{RefT, ptr, now}
+use denote.Ref.{RefT, now}
 use Rattle.basics.specs.Fields.{placeOf}
+use Rattle.basics.specs.Pieces.{StandsAt}
 use Rattle.basics.specs.Outcomes.{firstRefusal}
 use Rattle.basics.specs.declared.Outcome.{Outcome}
 use Rattle.basics.specs.declared.Place.{Place}
 use Rattle.files.specs.Files.{stations, recordAt, recordOffset, placesOf}
 use Rattle.files.specs.Calls.{fileTests, showOutcome, shownField, shownOffset}
-
--- A piece of the bytes that are lent, not a copy: it begins a bytes after their first.
-abbrev pub StandsAt : RefT (List ℕ) → ℕ → RefT (List ℕ) → Type 0
-StandsAt whole a piece = ptr piece ≡ (ptr whole .0, ptr whole .1 + a)
 
 -- `check_file`: 1, 2, or done.
 abbrev pub FileChecked : List ℕ → Outcome → Type 0

@@ -13,7 +13,8 @@ ghost use lib.Dec.{ltb, eqb};
 ghost use Prim.Native.Nat.{_+_, _-_, _≤_};
 ghost use lib.ListN.{length, take, drop};
 ghost use Rattle.files.specs.Files.{fieldCount};
-ghost use Rattle.files.specs.Promises.{StandsAt, FieldPlaced, ShowJudged, FieldShown};
+ghost use Rattle.basics.specs.Pieces.{StandsAt};
+ghost use Rattle.files.specs.Promises.{FieldPlaced, ShowJudged, FieldShown};
 
 // Record number k has a field number j.
 fn has_field(k: usize, j: usize) -> bool

@@ -14,7 +14,7 @@ use Rattle.basics.proofs.outcomes.code_with.Tie as tie
 
 -- the variants before the last
 abbrev earlier : List ℕ
-earlier = 0 ∷ 1 ∷ 2 ∷ 3 ∷ 4 ∷ 5 ∷ 6 ∷ 7 ∷ 8 ∷ 9 ∷ 10 ∷ 11 ∷ []
+earlier = 0 ∷ 1 ∷ 2 ∷ 3 ∷ 4 ∷ 5 ∷ 6 ∷ 7 ∷ 8 ∷ 9 ∷ 10 ∷ 11 ∷ 12 ∷ 13 ∷ 14 ∷ 15 ∷ []
 
 -- each of them comes with 0
 no-code : (o : Outcome) → OneOf earlier (tagOf the-type o) → 0 ≡ codeWith o
@@ -31,7 +31,11 @@ no-code outcome.NoSuchField k = refl
 no-code outcome.NotALine k = refl
 no-code outcome.FieldTooLong k = refl
 no-code outcome.BufferTooShort k = refl
-no-code (outcome.RuleBroken c) k = absurd (miss earlier 12 tt k)
+no-code outcome.OldFormTooMany k = refl
+no-code outcome.NotTwelveDigits k = refl
+no-code outcome.LastDigitWrong k = refl
+no-code outcome.NotMobileDefaults k = refl
+no-code (outcome.RuleBroken c) k = absurd (miss earlier 16 tt k)
 
 enum-known-outcome : tie.Need-enum-known-outcome
 enum-known-outcome c = search needs

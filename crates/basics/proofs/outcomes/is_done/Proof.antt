@@ -16,7 +16,7 @@ use Rattle.basics.proofs.outcomes.is_done.Tie as tie
 
 -- the variants after the first
 abbrev later : List ℕ
-later = 1 ∷ 2 ∷ 3 ∷ 4 ∷ 5 ∷ 6 ∷ 7 ∷ 8 ∷ 9 ∷ 10 ∷ 11 ∷ 12 ∷ []
+later = 1 ∷ 2 ∷ 3 ∷ 4 ∷ 5 ∷ 6 ∷ 7 ∷ 8 ∷ 9 ∷ 10 ∷ 11 ∷ 12 ∷ 13 ∷ 14 ∷ 15 ∷ 16 ∷ []
 
 -- each of them has its number, which is not 0
 refused : (o : Outcome) → OneOf later (tagOf the-type o) → false ≡ eqb (refusal o) 0
@@ -33,6 +33,10 @@ refused outcome.NoSuchField k = refl
 refused outcome.NotALine k = refl
 refused outcome.FieldTooLong k = refl
 refused outcome.BufferTooShort k = refl
+refused outcome.OldFormTooMany k = refl
+refused outcome.NotTwelveDigits k = refl
+refused outcome.LastDigitWrong k = refl
+refused outcome.NotMobileDefaults k = refl
 refused (outcome.RuleBroken c) k = refl
 
 enum-told : tie.Need-enum-told

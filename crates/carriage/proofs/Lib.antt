@@ -1,0 +1,3 @@
+pub mod BuildLaws
+pub mod Carriages
+pub mod Unique

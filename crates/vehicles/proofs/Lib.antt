@@ -1,0 +1,4 @@
+pub mod DigitLaws
+pub mod NameLaws
+pub mod Unique
+pub mod Examples
