@@ -7,6 +7,7 @@ use formats::Format;
 use numerals::Signed;
 use numerals::Whole;
 use positions::Located;
+use positions::Position;
 
 // Writes to standard output.
 fn put(s: &[u8]) {
@@ -43,8 +44,12 @@ fn put_test(passed: bool) {
 
 // A whole number in lent columns.
 fn write_whole(s: &mut [u8], v: u64) {
-    let written = numerals::write_whole(s, v);
-    put_columns(written, s);
+    if !numerals::fits_whole(s.len(), v) {
+        put(b" refused\n");
+        return;
+    }
+    numerals::put_whole(s, v);
+    put_columns(true, s);
 }
 
 // A whole number in the first n columns of a lent space.
@@ -70,9 +75,13 @@ fn whole(s: &[u8]) {
 
 // The four columns of a height.
 fn write_height(v: i64) {
+    if !numerals::fits_signed(4, v) {
+        put(b" refused\n");
+        return;
+    }
     let mut space = [0u8; 4];
-    let written = numerals::write_signed(&mut space, v);
-    put_columns(written, &space);
+    numerals::put_signed(&mut space, v);
+    put_columns(true, &space);
 }
 
 // A whole number with a sign, and its spelling in four columns.
@@ -92,8 +101,15 @@ fn signed(s: &[u8], only_written: bool) {
 
 // A decimal in lent columns.
 fn write_decimal(format: Format, s: &mut [u8], v: i64) {
-    let written = formats::write_decimal(format, s, v);
-    put_columns(written, s);
+    if s.len() != formats::decimal_width(format) {
+        return;
+    }
+    if !formats::fits_decimal(format, v) {
+        put(b" refused\n");
+        return;
+    }
+    formats::put_format(format, s, v);
+    put_columns(true, s);
 }
 
 // A decimal in the columns of its format, the first of a lent space.
@@ -149,6 +165,17 @@ fn date(s: &[u8]) {
     }
 }
 
+// The fifteen columns of a position.
+fn write_position(p: Position) {
+    if !positions::fits_position(p) {
+        put(b" refused\n");
+        return;
+    }
+    let mut space = [0u8; 15];
+    positions::put_position(&mut space, p);
+    put_columns(true, &space);
+}
+
 // A position, and its spelling.
 fn position(s: &[u8]) {
     match positions::read_position(s) {
@@ -158,9 +185,7 @@ fn position(s: &[u8]) {
             put_number(p.east);
             put(b" ");
             put_number(p.north);
-            let mut space = [0u8; 15];
-            let written = positions::write_position(&mut space, p);
-            put_columns(written, &space);
+            write_position(p);
         }
     }
 }

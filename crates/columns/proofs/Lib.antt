@@ -8,4 +8,3 @@ pub mod CountLaws
 pub mod TrimLaws
 pub mod ColumnLaws
 pub mod PlaceLaws
-pub mod Writing

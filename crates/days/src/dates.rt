@@ -144,6 +144,17 @@ fn put_date(s: &mut [u8], d: Date)
     put_digits(s, 0, 2, d.day as u64);
 }
 
+// Writes a date, or blank, in its eight columns.
+pub fn put_day(s: &mut [u8], v: Day)
+    requires { ⌜ length (now s) ≡ 8 ⌝ }
+    ensures { λ _. ⌜ now (s .exit) ≡ spellDay v ⌝ }
+{
+    match v {
+        Day::Blank => write_blank(s),
+        Day::Filled(d) => put_date(s, d),
+    }
+}
+
 // Whether a date or its absence can stand.
 pub fn fits_day(v: Day) -> bool
     ensures { λ r. ⌜ r ≡ dayFits v ⌝ }
@@ -175,9 +186,6 @@ pub fn write_day(s: &mut [u8], v: Day) -> bool
     if !fits_day(v) {
         return false;
     }
-    match v {
-        Day::Blank => write_blank(s),
-        Day::Filled(d) => put_date(s, d),
-    }
+    put_day(s, v);
     true
 }

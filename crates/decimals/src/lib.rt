@@ -59,7 +59,7 @@ pub fn magnitude_of(t: &[u8], a: usize, b: usize) -> Whole
 }
 
 // Writes digits, a point and digits, from o to the end.
-fn put_magnitude(s: &mut [u8], o: usize, a: usize, b: usize, v: u64)
+pub fn put_magnitude(s: &mut [u8], o: usize, a: usize, b: usize, v: u64)
     requires { ⌜ length (now s) ≡ o + a + 1 + b ⌝ }
     ensures { λ _. ⌜ now (s .exit) ≡ take o (now (s .entry)) ++ spellMagnitude a b v ⌝ }
 {

@@ -6,15 +6,13 @@ use numerals::fits_signed;
 use numerals::fits_whole;
 use numerals::is_negative;
 use numerals::magnitude;
+use numerals::put_signed;
 use numerals::put_whole;
 use numerals::read_signed;
 use numerals::read_whole;
 use numerals::says_number;
-use numerals::write_signed;
-use numerals::write_whole;
 ghost use mathlib.Core.Path.{_≡_};
-ghost use mathlib.Core.Bool.{cond, _&&_};
-ghost use Rattle.columns.specs.Texts.{sized};
+ghost use lib.ListN.{length};
 ghost use Rattle.numerals.specs.Numbers.{wholeOf, wholeFilled};
 ghost use Rattle.distances.specs.Distances.{radiusOf, radiusFits, spellRadius, groundOf, groundFits, spellGround, heightGood, heightOf, heightFits, spellHeight};
 
@@ -51,15 +49,12 @@ pub fn fits_radius(v: Kilometres) -> bool
     fits_whole(5, v.0)
 }
 
-// A radius that fits, in five columns; else nothing is written.
-pub fn write_radius(s: &mut [u8], v: Kilometres) -> bool
-    ensures { λ r. ⌜ r ≡ sized 5 (now (s .entry)) && radiusFits v ⌝ }
-    ensures { λ _. ⌜ now (s .exit) ≡ cond (sized 5 (now (s .entry)) && radiusFits v) (spellRadius v) (now (s .entry)) ⌝ }
+// Writes a radius in its five columns.
+pub fn put_radius(s: &mut [u8], v: Kilometres)
+    requires { ⌜ length (now s) ≡ 5 ⌝ }
+    ensures { λ _. ⌜ now (s .exit) ≡ spellRadius v ⌝ }
 {
-    if s.len() != 5 {
-        return false;
-    }
-    write_whole(s, v.0)
+    put_whole(s, v.0);
 }
 
 // The height above ground that its columns say.
@@ -80,19 +75,12 @@ pub fn fits_ground(v: Metres) -> bool
     fits_whole(4, magnitude(v.0))
 }
 
-// A height above ground that fits, in four columns; else nothing is written.
-pub fn write_ground(s: &mut [u8], v: Metres) -> bool
-    ensures { λ r. ⌜ r ≡ sized 4 (now (s .entry)) && groundFits v ⌝ }
-    ensures { λ _. ⌜ now (s .exit) ≡ cond (sized 4 (now (s .entry)) && groundFits v) (spellGround v) (now (s .entry)) ⌝ }
+// Writes a height above ground in its four columns.
+pub fn put_ground(s: &mut [u8], v: Metres)
+    requires { ⌜ length (now s) ≡ 4 ⌝ }
+    ensures { λ _. ⌜ now (s .exit) ≡ spellGround v ⌝ }
 {
-    if s.len() != 4 {
-        return false;
-    }
-    if !fits_ground(v) {
-        return false;
-    }
     put_whole(s, magnitude(v.0));
-    true
 }
 
 // The rule on the columns of 4Z: blank, or a height from -999 to 9999.
@@ -127,19 +115,13 @@ pub fn fits_height(v: Height) -> bool
     }
 }
 
-// A height above sea that fits, or blank, in four columns; else nothing is written.
-pub fn write_height(s: &mut [u8], v: Height) -> bool
-    ensures { λ r. ⌜ r ≡ sized 4 (now (s .entry)) && heightFits v ⌝ }
-    ensures { λ _. ⌜ now (s .exit) ≡ cond (sized 4 (now (s .entry)) && heightFits v) (spellHeight v) (now (s .entry)) ⌝ }
+// Writes a height above sea, or blank, in its four columns.
+pub fn put_height(s: &mut [u8], v: Height)
+    requires { ⌜ length (now s) ≡ 4 ⌝ }
+    ensures { λ _. ⌜ now (s .exit) ≡ spellHeight v ⌝ }
 {
-    if s.len() != 4 {
-        return false;
-    }
     match v {
-        Height::Blank => {
-            write_blank(s);
-            true
-        }
-        Height::Filled(m) => write_signed(s, m.0),
+        Height::Blank => write_blank(s),
+        Height::Filled(m) => put_signed(s, m.0),
     }
 }

@@ -1,3 +1,2 @@
 pub mod FormatLaws
-pub mod SignedLaws
 pub mod TenthsColumn

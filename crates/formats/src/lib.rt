@@ -10,10 +10,9 @@ use numerals::in_sign;
 use numerals::is_negative;
 use numerals::magnitude;
 ghost use mathlib.Core.Path.{_≡_};
-ghost use mathlib.Core.Bool.{cond, _&&_};
 ghost use Prim.Native.Nat.{_+_};
+ghost use lib.ListN.{length};
 ghost use Rattle.formats.specs.Formats.{digitsBefore, digitsAfter, maySign, formatOf, formatWidth, formatFits, spellFormat};
-ghost use Rattle.columns.specs.Texts.{sized};
 
 // The field that a decimal stands in: it decides the digits before the point and after it, and the sign.
 pub enum Format {
@@ -113,20 +112,13 @@ pub fn fits_decimal(format: Format, v: i64) -> bool
     !is_negative(v)
 }
 
-// A decimal that its format can spell, in columns of the format's width; else nothing is written.
-pub fn write_decimal(format: Format, s: &mut [u8], v: i64) -> bool
-    ensures { λ r. ⌜ r ≡ sized (formatWidth format) (now (s .entry)) && formatFits format v ⌝ }
-    ensures { λ _. ⌜ now (s .exit) ≡ cond (sized (formatWidth format) (now (s .entry)) && formatFits format v) (spellFormat format v) (now (s .entry)) ⌝ }
+// Writes a decimal in the columns of its format.
+pub fn put_format(format: Format, s: &mut [u8], v: i64)
+    requires { ⌜ length (now s) ≡ formatWidth format ⌝ }
+    ensures { λ _. ⌜ now (s .exit) ≡ spellFormat format v ⌝ }
 {
-    if s.len() != decimal_width(format) {
-        return false;
-    }
-    if !fits_decimal(format, v) {
-        return false;
-    }
     let a = digits_before(format);
     let b = digits_after(format);
     let sign = may_sign(format);
     put_decimal(s, a, b, sign, v);
-    true
 }

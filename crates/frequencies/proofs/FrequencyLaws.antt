@@ -2,21 +2,18 @@
 use mathlib.Core.Path.{_≡_, refl, sym}
 use mathlib.Core.Bool.{Bool, true, false, and-true, and-false}
 use mathlib.Core.List.{List, [], _∷_}
-use Prim.Native.Nat.{ℕ, _^_, _<_}
+use Prim.Native.Nat.{ℕ}
 use native.Mathlib.Omega.{arith}
 use lib.Dec.{ltb}
 use lib.ListN.{length, set}
-use lib.IntN.{pos}
-use borrow.Author.Tests.{ltb-true}
 use Rattle.columns.specs.Sets.{is, among}
 use Rattle.columns.specs.Texts.{head, blank, each}
 use Rattle.numerals.specs.Numbers.{wholeFits}
-use Rattle.decimals.specs.Decimals.{decimalFits}
-use Rattle.columns.proofs.TextLaws.{and-split, cond-case}
+use Rattle.columns.proofs.TextLaws.{cond-case}
 use Rattle.frequencies.specs.declared.Hertz.{Hertz}
 use Rattle.frequencies.specs.declared.Frequency.{Frequency}
 use Rattle.frequencies.specs.declared.Frequency.the-variants as frequency
-use Rattle.frequencies.specs.Frequencies.{unitGood, frequencyFits, aboveZero}
+use Rattle.frequencies.specs.Frequencies.{unitGood, frequencyFits}
 
 -- a field of one byte passes where its byte does,
 one-byte : (test : ℕ → Bool) (q : List ℕ) → length q ≡ 1 → each (test ∷ []) q ≡ test (head q)
@@ -59,16 +56,7 @@ module _ (n : ℕ) (u : Hertz) {v : Frequency} (e : v ≡ frequency.Filled n u) 
   unfolding frequencyFits
   amount-not h = rw (e, h)
 
-  -- one of few enough fits where it is above zero,
+  -- and one of few enough fits where it is above zero
   pub amount-above : wholeFits 10 n ≡ true → ltb 0 n ≡ frequencyFits v
   unfolding frequencyFits
   amount-above h = rw (e, h)
-
-  -- and one that fits has its digits in their places
-  pub amount-digits : frequencyFits v ≡ true → decimalFits 5 5 false (pos n) ≡ true
-  unfolding frequencyFits
-  amount-digits h = and-split (decimalFits 5 5 false (pos n)) (aboveZero (pos n)) (rw e at h) .0
-
-  -- so that it is below ten thousand million
-  pub amount-below : frequencyFits v ≡ true → n < 10 ^ 10
-  amount-below h = ltb-true n (10 ^ 10) (and-split (ltb n (10 ^ 10)) true (amount-digits h) .0)

@@ -2,16 +2,15 @@
 use columns::texts::byte;
 use columns::texts::is_blank;
 use columns::texts::write_blank;
+use decimals::put_magnitude;
 use formats::Format;
 use formats::read_decimal;
-use formats::write_decimal;
 use numerals::Signed;
 use numerals::fits_whole;
 use numerals::magnitude;
 ghost use mathlib.Core.Path.{_≡_};
-ghost use mathlib.Core.Bool.{cond, _&&_};
+ghost use lib.ListN.{length};
 ghost use Rattle.columns.specs.Sets.{among};
-ghost use Rattle.columns.specs.Texts.{sized};
 ghost use Rattle.frequencies.specs.Frequencies.{amountGood, unitGood, unitOf, unitLetter, frequencyOf, frequencyFits, spellAmount, spellUnit};
 
 // What a frequency counts 1/100000 of: a kilohertz, a megahertz or a gigahertz.
@@ -112,37 +111,24 @@ pub fn fits_frequency(v: Frequency) -> bool
     }
 }
 
-// The amount of a frequency that fits, or blank, in eleven columns; else nothing is written.
-pub fn write_amount(s: &mut [u8], v: Frequency) -> bool
-    ensures { λ r. ⌜ r ≡ sized 11 (now (s .entry)) && frequencyFits v ⌝ }
-    ensures { λ _. ⌜ now (s .exit) ≡ cond (sized 11 (now (s .entry)) && frequencyFits v) (spellAmount v) (now (s .entry)) ⌝ }
+// Writes the amount of a frequency, or blank, in its eleven columns.
+pub fn put_amount(s: &mut [u8], v: Frequency)
+    requires { ⌜ length (now s) ≡ 11 ⌝ }
+    ensures { λ _. ⌜ now (s .exit) ≡ spellAmount v ⌝ }
 {
-    if s.len() != 11 {
-        return false;
-    }
-    if !fits_frequency(v) {
-        return false;
-    }
     match v {
         Frequency::Blank => write_blank(s),
-        Frequency::Filled(n, _) => {
-            write_decimal(Format::Frequency, s, n as i64);
-        }
+        Frequency::Filled(n, _) => put_magnitude(s, 0, 5, 5, n),
     }
-    true
 }
 
-// The letter of a frequency's unit, or a space, in one column; in others nothing is written.
-pub fn write_unit(s: &mut [u8], v: Frequency) -> bool
-    ensures { λ r. ⌜ r ≡ sized 1 (now (s .entry)) ⌝ }
-    ensures { λ _. ⌜ now (s .exit) ≡ cond (sized 1 (now (s .entry))) (spellUnit v) (now (s .entry)) ⌝ }
+// Writes the letter of a frequency's unit, or a space, in its one column.
+pub fn put_unit(s: &mut [u8], v: Frequency)
+    requires { ⌜ length (now s) ≡ 1 ⌝ }
+    ensures { λ _. ⌜ now (s .exit) ≡ spellUnit v ⌝ }
 {
-    if s.len() != 1 {
-        return false;
-    }
     match v {
         Frequency::Blank => s[0] = b' ',
         Frequency::Filled(_, u) => s[0] = unit_letter(u),
     }
-    true
 }

@@ -1,18 +1,13 @@
 -- Digits that are written, place by place.
 use mathlib.Core.Path.{_≡_, refl, sym, ap, _∙_}
 use mathlib.Core.List.{List, [], _∷_, _++_}
-use mathlib.Core.Bool.{true, cond}
 use Prim.Native.Nat.{ℕ, zero, suc, _+_, _-_, _/_, _%_, _^_, _≤_, _<_}
 use native.Mathlib.Omega.{arith}
 use native.Mathlib.Numerals.{sub-one}
 use native.Mathlib.Nat.{add-zero, add-suc, pow-succ', div-one, div-div-eq-div-mul}
 use lib.ListN.{length, set, take, drop, length-append, drop-of-length-le, take-append-drop}
 use lib.Seq.{set-split, drop-at, length-take-le, take-append-le, take-take}
-use Rattle.numerals.specs.Numbers.{spellDigits, isNegative, wholeFits, signedFits}
-use lib.IntN.{ℤ, natAbs}
-use lib.Dec.{ltb}
-use borrow.Author.Tests.{ltb-true}
-use Rattle.columns.proofs.TextLaws.{and-split}
+use Rattle.numerals.specs.Numbers.{spellDigits}
 
 -- what stands from a place on after it is written
 drop-set : (l : List ℕ) (j x : ℕ) → j < length l → drop j (set l j x) ≡ x ∷ drop (suc j) l
@@ -71,11 +66,6 @@ put-last s s₁ at k v n e = e ∙ rw (drop-of-length-le s {i = at + k} (omega a
 pub put-first : (s t : List ℕ) (x : ℕ) → 1 ≤ length s → set (take 1 s ++ t) 0 x ≡ x ∷ t
 put-first [] t x h = absurd (omega arith)
 put-first (y ∷ s) t x h = refl
-
--- a column that a number with a sign fits is there
-pub signed-room : (w : ℕ) (z : ℤ) → signedFits w z ≡ true → 0 < w
-unfolding signedFits
-signed-room w z e = ltb-true 0 w (and-split (ltb 0 w) (cond (isNegative z) (wholeFits (w - 1) (natAbs z)) (wholeFits w (natAbs z))) e .0)
 
 -- minus and digits
 pub put-minus : (s s₁ : List ℕ) (m : ℕ) → 0 < length s → s₁ ≡ take 1 s ++ spellDigits (length s - 1) m (drop (1 + (length s - 1)) s) → set s₁ 0 45 ≡ 45 ∷ spellDigits (length s - 1) m []

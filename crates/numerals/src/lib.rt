@@ -3,7 +3,6 @@ use columns::sets::is_digit;
 use columns::texts::byte;
 use columns::texts::spaces;
 ghost use mathlib.Core.Path.{_≡_};
-ghost use mathlib.Core.Bool.{cond};
 ghost use mathlib.Core.List.{_++_};
 ghost use Prim.Native.Nat.{_+_, _-_, _/_, _^_, _≤_, _<_};
 ghost use lib.ListN.{length, take, drop};
@@ -199,18 +198,6 @@ pub fn fits_whole(k: usize, v: u64) -> bool
     rest == 0
 }
 
-// A whole number in columns that have a place for each digit; in others nothing is written.
-pub fn write_whole(s: &mut [u8], v: u64) -> bool
-    ensures { λ r. ⌜ r ≡ wholeFits (length (now (s .entry))) v ⌝ }
-    ensures { λ _. ⌜ now (s .exit) ≡ cond (wholeFits (length (now (s .entry))) v) (spellWhole (length (now (s .entry))) v) (now (s .entry)) ⌝ }
-{
-    if !fits_whole(s.len(), v) {
-        return false;
-    }
-    put_whole(s, v);
-    true
-}
-
 // Whether v is below zero.
 pub fn is_negative(v: i64) -> bool
     ensures { λ r. ⌜ r ≡ isNegative v ⌝ }
@@ -243,20 +230,16 @@ pub fn fits_signed(w: usize, v: i64) -> bool
     fits_whole(w, magnitude(v))
 }
 
-// A whole number with its sign in columns that have a place for each; in others nothing is written.
-pub fn write_signed(s: &mut [u8], v: i64) -> bool
-    ensures { λ r. ⌜ r ≡ signedFits (length (now (s .entry))) v ⌝ }
-    ensures { λ _. ⌜ now (s .exit) ≡ cond (signedFits (length (now (s .entry))) v) (spellSigned (length (now (s .entry))) v) (now (s .entry)) ⌝ }
+// Writes a number with its sign: minus and digits below zero, else a digit in each column.
+pub fn put_signed(s: &mut [u8], v: i64)
+    requires { ⌜ 0 < length (now s) ⌝ }
+    ensures { λ _. ⌜ now (s .exit) ≡ spellSigned (length (now (s .entry))) v ⌝ }
 {
     let n = s.len();
-    if !fits_signed(n, v) {
-        return false;
-    }
     if is_negative(v) {
         put_digits(s, 1, n - 1, magnitude(v));
         s[0] = b'-';
-        return true;
+        return;
     }
     put_whole(s, magnitude(v));
-    true
 }

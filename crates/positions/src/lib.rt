@@ -14,7 +14,6 @@ ghost use Prim.Native.Nat.{_+_, _*_, _/_, _%_, _^_, _≤_, _<_};
 ghost use lib.ListN.{length, getD, take, drop};
 ghost use lib.IntN.{natAbs};
 ghost use lib.Dec.{leb, eqb};
-ghost use Rattle.columns.specs.Texts.{sized};
 ghost use Rattle.numerals.specs.Numbers.{wholeOf, wholeFilled, amount, withSign, isNegative, spellDigits};
 ghost use Rattle.positions.specs.Positions.{positionGood, positionOf, locatedOf, positionFits, spellPosition};
 
@@ -203,26 +202,11 @@ fn put_arc(s: &mut [u8], d: usize, plus: u8, minus: u8, v: i64)
     put_whole(&mut s[0..d], n / 3600);
 }
 
-// Writes both halves.
-fn put_arcs(s: &mut [u8], v: Position)
+// Writes a position in its fifteen columns.
+pub fn put_position(s: &mut [u8], v: Position)
     requires { ⌜ length (now s) ≡ 15 ⌝ }
     ensures { λ _. ⌜ now (s .exit) ≡ spellPosition v ⌝ }
 {
     put_arc(&mut s[0..8], 3, b'E', b'W', v.east);
     put_arc(&mut s[8..15], 2, b'N', b'S', v.north);
-}
-
-// A position on the ground in fifteen columns; else nothing is written.
-pub fn write_position(s: &mut [u8], v: Position) -> bool
-    ensures { λ r. ⌜ r ≡ sized 15 (now (s .entry)) && positionFits v ⌝ }
-    ensures { λ _. ⌜ now (s .exit) ≡ cond (sized 15 (now (s .entry)) && positionFits v) (spellPosition v) (now (s .entry)) ⌝ }
-{
-    if s.len() != 15 {
-        return false;
-    }
-    if !fits_position(v) {
-        return false;
-    }
-    put_arcs(s, v);
-    true
 }

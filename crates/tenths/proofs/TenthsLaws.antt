@@ -4,7 +4,6 @@ use mathlib.Core.Bool.{Bool, true, false}
 use lib.IntN.{ℤ}
 use Rattle.formats.specs.Formats.{digitsBefore, digitsAfter, maySign, formatFits}
 use Rattle.formats.specs.declared.Format.{Format}
-use Rattle.columns.proofs.TextLaws.{and-split}
 use Rattle.formats.specs.declared.Tenths.{Tenths}
 use Rattle.formats.specs.declared.Tenths.the-variants as tenths
 use Rattle.formats.specs.Tenths.{tenthsFit}
@@ -15,12 +14,7 @@ pub fit-not : (f : Format) (z : ℤ) {v : Tenths} → v ≡ tenths.Filled z → 
 unfolding tenthsFit
 fit-not f z e h = rw (e, h)
 
--- fits by its range where they have them,
+-- and fits by its range where they have them
 pub fit-range : (f : Format) (z : ℤ) {v : Tenths} {r : Bool} → v ≡ tenths.Filled z → formatFits f z ≡ true → r ≡ rangeOf f z → r ≡ tenthsFit (digitsBefore f) (digitsAfter f) (maySign f) (rangeOf f) v
 unfolding tenthsFit
 fit-range f z e h g = rw (e, h) g
-
--- and where it fits they have them
-pub digits-fit : (f : Format) (z : ℤ) {v : Tenths} → v ≡ tenths.Filled z → tenthsFit (digitsBefore f) (digitsAfter f) (maySign f) (rangeOf f) v ≡ true → formatFits f z ≡ true
-unfolding tenthsFit
-digits-fit f z e h = and-split (formatFits f z) (rangeOf f z) (rw e at h) .0

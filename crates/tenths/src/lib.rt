@@ -2,15 +2,13 @@
 use columns::texts::write_blank;
 use formats::Format;
 use formats::Tenths;
-use formats::decimal_width;
 use formats::fits_decimal;
+use formats::put_format;
 use formats::read_decimal;
-use formats::write_decimal;
 use numerals::Signed;
 use numerals::magnitude;
 ghost use mathlib.Core.Path.{_≡_};
-ghost use mathlib.Core.Bool.{cond, _&&_};
-ghost use Rattle.columns.specs.Texts.{sized};
+ghost use lib.ListN.{length};
 ghost use Rattle.formats.specs.Formats.{digitsBefore, digitsAfter, maySign, formatWidth};
 ghost use Rattle.formats.specs.Tenths.{tenthsGood, tenthsOf, tenthsFit, spellTenths};
 ghost use Rattle.fields.specs.Table.{rangeOf};
@@ -65,22 +63,13 @@ pub fn fits_tenths(format: Format, v: Tenths) -> bool
     }
 }
 
-// A value that keeps its field's rule, or blank, in columns of the field's width; else nothing is written.
-pub fn write_tenths(format: Format, s: &mut [u8], v: Tenths) -> bool
-    ensures { λ r. ⌜ r ≡ sized (formatWidth format) (now (s .entry)) && tenthsFit (digitsBefore format) (digitsAfter format) (maySign format) (rangeOf format) v ⌝ }
-    ensures { λ _. ⌜ now (s .exit) ≡ cond (sized (formatWidth format) (now (s .entry)) && tenthsFit (digitsBefore format) (digitsAfter format) (maySign format) (rangeOf format) v) (spellTenths (digitsBefore format) (digitsAfter format) (maySign format) v) (now (s .entry)) ⌝ }
+// Writes a value, or blank, in the columns of its field.
+pub fn put_tenths(format: Format, s: &mut [u8], v: Tenths)
+    requires { ⌜ length (now s) ≡ formatWidth format ⌝ }
+    ensures { λ _. ⌜ now (s .exit) ≡ spellTenths (digitsBefore format) (digitsAfter format) (maySign format) v ⌝ }
 {
-    if s.len() != decimal_width(format) {
-        return false;
-    }
-    if !fits_tenths(format, v) {
-        return false;
-    }
     match v {
         Tenths::Blank => write_blank(s),
-        Tenths::Filled(z) => {
-            write_decimal(format, s, z);
-        }
+        Tenths::Filled(z) => put_format(format, s, z),
     }
-    true
 }

@@ -1,3 +1,1 @@
-pub mod FitLaws
-pub mod PutLaws
 pub mod Unique

@@ -1,25 +1,24 @@
 // The five groups of a station's fields, each field written straight into its own columns.
-use crate::putting::put_amount;
-use crate::putting::put_ground;
-use crate::putting::put_height;
-use crate::putting::put_position;
-use crate::putting::put_radius;
-use crate::putting::put_tenths;
-use crate::putting::put_unit;
 use columns::texts::write_byte;
 use columns::texts::write_text;
-use days::dates::write_day;
+use days::dates::put_day;
+use distances::put_ground;
+use distances::put_height;
+use distances::put_radius;
 use formats::Format;
+use frequencies::put_amount;
+use frequencies::put_unit;
+use positions::put_position;
 use station::Antenna;
 use station::Channel;
 use station::Coordination;
 use station::Emission;
 use station::Site;
+use tenths::put_tenths;
 ghost use mathlib.Core.Path.{_≡_};
 ghost use lib.ListN.{length, drop};
 ghost use Rattle.basics.specs.Fields.{joined};
-ghost use Rattle.basics.specs.Rules.{All};
-ghost use Rattle.station.specs.Groups.{channelRules, siteRules, emissionRules, antennaRules, coordinationRules, channelPieces, sitePieces, emissionPieces, antennaPieces, coordinationPieces};
+ghost use Rattle.station.specs.Groups.{channelPieces, sitePieces, emissionPieces, antennaPieces, coordinationPieces};
 
 // 6A, 6B, 6Z and 10Z, columns 14 to 20: what it is used for.
 fn put_use(g: Channel, s: &mut [u8])
@@ -37,7 +36,7 @@ fn put_use(g: Channel, s: &mut [u8])
 
 // 1A with its unit, 1Z and what follows, columns 1 to 20.
 pub(crate) fn put_channel(g: Channel, s: &mut [u8])
-    requires { ⌜ (length (now s) ≡ 20) × All (channelRules g) ⌝ }
+    requires { ⌜ length (now s) ≡ 20 ⌝ }
     ensures { λ _. ⌜ now (s .exit) ≡ joined (channelPieces g) ⌝ }
 {
     let transmit = g.transmit;
@@ -49,7 +48,7 @@ pub(crate) fn put_channel(g: Channel, s: &mut [u8])
 
 // 4C, 4D and 4Z, columns 52 to 75: the place on the ground.
 fn put_location(g: Site, s: &mut [u8])
-    requires { ⌜ (length (now s) ≡ 24) × All (siteRules g) ⌝ }
+    requires { ⌜ length (now s) ≡ 24 ⌝ }
     ensures { λ _. ⌜ now (s .exit) ≡ joined (drop 3 (sitePieces g)) ⌝ }
 {
     let position = g.position;
@@ -62,11 +61,11 @@ fn put_location(g: Site, s: &mut [u8])
 
 // 2C, 4A, 4B and the place on the ground, columns 21 to 75.
 pub(crate) fn put_site(g: Site, s: &mut [u8])
-    requires { ⌜ (length (now s) ≡ 55) × All (siteRules g) ⌝ }
+    requires { ⌜ length (now s) ≡ 55 ⌝ }
     ensures { λ _. ⌜ now (s .exit) ≡ joined (sitePieces g) ⌝ }
 {
     let started = g.started;
-    write_day(&mut s[0..8], started);
+    put_day(&mut s[0..8], started);
     let name = g.name;
     write_text(&mut s[8..28], &name);
     let country = g.country;
@@ -76,7 +75,7 @@ pub(crate) fn put_site(g: Site, s: &mut [u8])
 
 // 9A and 9B, columns 92 to 101: where it is sent to.
 fn put_direction(g: Emission, s: &mut [u8])
-    requires { ⌜ (length (now s) ≡ 10) × All (emissionRules g) ⌝ }
+    requires { ⌜ length (now s) ≡ 10 ⌝ }
     ensures { λ _. ⌜ now (s .exit) ≡ joined (drop 3 (emissionPieces g)) ⌝ }
 {
     let azimuth = g.azimuth;
@@ -87,7 +86,7 @@ fn put_direction(g: Emission, s: &mut [u8])
 
 // 7A, 8B1, 8B2 and the direction, columns 76 to 101.
 pub(crate) fn put_emission(g: Emission, s: &mut [u8])
-    requires { ⌜ (length (now s) ≡ 26) × All (emissionRules g) ⌝ }
+    requires { ⌜ length (now s) ≡ 26 ⌝ }
     ensures { λ _. ⌜ now (s .exit) ≡ joined (emissionPieces g) ⌝ }
 {
     let designation = g.designation;
@@ -111,7 +110,7 @@ fn put_types(g: Antenna, s: &mut [u8])
 
 // 9D, 9G, 9Y and the types, columns 102 to 125.
 pub(crate) fn put_antenna(g: Antenna, s: &mut [u8])
-    requires { ⌜ (length (now s) ≡ 24) × All (antennaRules g) ⌝ }
+    requires { ⌜ length (now s) ≡ 24 ⌝ }
     ensures { λ _. ⌜ now (s .exit) ≡ joined (antennaPieces g) ⌝ }
 {
     let polarisation = g.polarisation;
@@ -125,21 +124,21 @@ pub(crate) fn put_antenna(g: Antenna, s: &mut [u8])
 
 // 13Y, 2W, 2Z and 13X, columns 188 to 219: how it was coordinated.
 fn put_status(g: Coordination, s: &mut [u8])
-    requires { ⌜ (length (now s) ≡ 32) × All (coordinationRules g) ⌝ }
+    requires { ⌜ length (now s) ≡ 32 ⌝ }
     ensures { λ _. ⌜ now (s .exit) ≡ joined (drop 3 (coordinationPieces g)) ⌝ }
 {
     write_byte(&mut s[0..1], g.status);
     let requested = g.requested;
-    write_day(&mut s[1..9], requested);
+    put_day(&mut s[1..9], requested);
     let coordinated = g.coordinated;
-    write_day(&mut s[9..17], coordinated);
+    put_day(&mut s[9..17], coordinated);
     let reference = g.reference;
     write_text(&mut s[17..32], &reference);
 }
 
 // 1Y with its unit, 13Z and what follows, columns 126 to 219.
 pub(crate) fn put_coordination(g: Coordination, s: &mut [u8])
-    requires { ⌜ (length (now s) ≡ 94) × All (coordinationRules g) ⌝ }
+    requires { ⌜ length (now s) ≡ 94 ⌝ }
     ensures { λ _. ⌜ now (s .exit) ≡ joined (coordinationPieces g) ⌝ }
 {
     let receive = g.receive;

@@ -9,16 +9,14 @@ use station::Station;
 use station::typed::typed_code;
 ghost use mathlib.Core.Path.{_≡_};
 ghost use lib.ListN.{length};
-ghost use Rattle.station.specs.Codes.{typedCode};
 ghost use Rattle.station.specs.Spelling.{spellStation};
 ghost use Rattle.writing.specs.Promises.{StationWritten};
 
 mod groups;
-mod putting;
 
-// Writes a station that breaks no rule.
+// Writes a station, whatever it holds.
 fn put_station(s: Station, buffer: &mut [u8])
-    requires { ⌜ (length (now buffer) ≡ 219) × (typedCode s ≡ 0) ⌝ }
+    requires { ⌜ length (now buffer) ≡ 219 ⌝ }
     ensures { λ _. ⌜ now (buffer .exit) ≡ spellStation s ⌝ }
 {
     let channel = s.channel;

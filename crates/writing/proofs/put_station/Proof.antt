@@ -1,9 +1,8 @@
 -- `writing::put_station` meets its contract: each group is written after the one before it.
 use mathlib.Core.Path.{_≡_}
-use lib.ListN.{length, take, drop}
+use lib.ListN.{length}
 use Rattle.station.specs.Groups.{channelPieces, sitePieces, emissionPieces, antennaPieces, coordinationPieces}
 use Rattle.station.specs.Spelling.{stationPieces, spellStation}
-use Rattle.writing.proofs.FitLaws.{channel-fits, site-fits, emission-fits, antenna-fits, coordination-fits}
 use Rattle.basics.proofs.WriteLaws.{nothing-yet, then-some, all-written}
 use borrow.Author.Needs.{needs}
 use native.Mathlib.Omega.{arith}
@@ -20,7 +19,7 @@ part-put-channel-end : tie.Need-part-put-channel-end
 part-put-channel-end c = search needs
 
 put-channel-requires : tie.Need-put-channel-requires
-put-channel-requires c κs = (search needs, channel-fits (c .before .before .before .args .s) (c .before .before .before .pre .1))
+put-channel-requires c κs = search needs
 
 sub-put-site : tie.Need-sub-put-site
 sub-put-site c = search needs
@@ -32,7 +31,7 @@ part-put-site-end : tie.Need-part-put-site-end
 part-put-site-end c = search needs
 
 put-site-requires : tie.Need-put-site-requires
-put-site-requires c κs = (search needs, site-fits (c .before .before .before .before .before .before .before .before .args .s) (c .before .before .before .before .before .before .before .before .pre .1))
+put-site-requires c κs = search needs
 
 sub-put-emission : tie.Need-sub-put-emission
 sub-put-emission c = search needs
@@ -44,7 +43,7 @@ part-put-emission-end : tie.Need-part-put-emission-end
 part-put-emission-end c = search needs
 
 put-emission-requires : tie.Need-put-emission-requires
-put-emission-requires c κs = (search needs, emission-fits (c .before .before .before .before .before .before .before .before .before .before .before .before .before .args .s) (c .before .before .before .before .before .before .before .before .before .before .before .before .before .pre .1))
+put-emission-requires c κs = search needs
 
 sub-put-antenna : tie.Need-sub-put-antenna
 sub-put-antenna c = search needs
@@ -56,7 +55,7 @@ part-put-antenna-end : tie.Need-part-put-antenna-end
 part-put-antenna-end c = search needs
 
 put-antenna-requires : tie.Need-put-antenna-requires
-put-antenna-requires c κs = (search needs, antenna-fits (c .before .before .before .before .before .before .before .before .before .before .before .before .before .before .before .before .before .before .args .s) (c .before .before .before .before .before .before .before .before .before .before .before .before .before .before .before .before .before .before .pre .1))
+put-antenna-requires c κs = search needs
 
 sub-put-coordination : tie.Need-sub-put-coordination
 sub-put-coordination c = search needs
@@ -68,7 +67,7 @@ part-put-coordination-end : tie.Need-part-put-coordination-end
 part-put-coordination-end c = search needs
 
 put-coordination-requires : tie.Need-put-coordination-requires
-put-coordination-requires c κs = (search needs, coordination-fits (c .before .before .before .before .before .before .before .before .before .before .before .before .before .before .before .before .before .before .before .before .before .before .before .args .s) (c .before .before .before .before .before .before .before .before .before .before .before .before .before .before .before .before .before .before .before .before .before .before .before .pre .1))
+put-coordination-requires c κs = search needs
 
 same-length : tie.Need-same-length
 same-length c = search needs
@@ -83,7 +82,7 @@ returns c =
     let channel = site .before .before .before .before .before in
     let start = channel .before .before .before .before in
     let s = start .args .s in
-    let l : length (start .args .buffer .now) ≡ 219 = start .pre .0 in
+    let l : length (start .args .buffer .now) ≡ 219 = start .pre in
     let w0 = nothing-yet (start .args .buffer .now) in
     let w1 = then-some w0 20 (omega arith) (channelPieces (s .channel)) (channel .put-channel .ensures) (channel .put-channel .kept .1 .0) in
     let w2 = then-some w1 55 (omega arith) (sitePieces (s .site)) (site .put-site .ensures) (site .put-site .kept .1 .0) in

@@ -1,7 +1,6 @@
 -- `days::dates::is_day` meets its contract, answer by answer.
-use mathlib.Core.Path.{_≡_, sym, ap, _∙_}
-use mathlib.Core.Bool.{Bool}
-use Rattle.days.specs.Dates.{dayPasses, dateOf, dayGood}
+use mathlib.Core.Path.{sym, ap, _∙_}
+use Rattle.days.specs.Dates.{dayPasses, dayGood}
 use borrow.Author.Needs.{needs}
 use Rattle.days.proofs.dates.is_day.Statement.{statement}
 use Rattle.days.proofs.dates.is_day.Tie as tie

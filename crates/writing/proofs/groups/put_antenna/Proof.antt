@@ -4,7 +4,7 @@ use mathlib.Core.Bool.{false}
 use lib.ListN.{length, drop}
 use Rattle.formats.specs.Tenths.{spellTenths}
 use Rattle.distances.specs.Distances.{spellGround}
-use Rattle.station.specs.Groups.{antennaRules, antennaPieces}
+use Rattle.station.specs.Groups.{antennaPieces}
 use Rattle.basics.proofs.WriteLaws.{nothing-yet, then-one, then-text, then-some, all-written}
 use borrow.Author.Needs.{needs}
 use native.Mathlib.Omega.{arith}
@@ -40,8 +40,7 @@ part-put-tenths-end : tie.Need-part-put-tenths-end
 part-put-tenths-end c = search needs
 
 put-tenths-requires : tie.Need-put-tenths-requires
-unfolding antennaRules
-put-tenths-requires c κs = (search needs, c .before .before .before .before .before .before .before .before .pre .1 .1 .0)
+put-tenths-requires c κs = search needs
 
 sub-put-ground : tie.Need-sub-put-ground
 sub-put-ground c = search needs
@@ -53,8 +52,7 @@ part-put-ground-end : tie.Need-part-put-ground-end
 part-put-ground-end c = search needs
 
 put-ground-requires : tie.Need-put-ground-requires
-unfolding antennaRules
-put-ground-requires c κs = (search needs, c .before .before .before .before .before .before .before .before .before .before .before .before .before .pre .1 .1 .1 .0)
+put-ground-requires c κs = search needs
 
 sub-put-types : tie.Need-sub-put-types
 sub-put-types c = search needs
@@ -80,7 +78,7 @@ returns c =
     let polarisation = gain .before .before .before .before in
     let start = polarisation .before .before .before .before .before in
     let g = start .args .g in
-    let l : length (start .args .s .now) ≡ 24 = start .pre .0 in
+    let l : length (start .args .s .now) ≡ 24 = start .pre in
     let w0 = nothing-yet (start .args .s .now) in
     let w1 = then-text w0 2 (omega arith) (g .polarisation) (polarisation .write-text .ensures .1) (polarisation-wide start) (polarisation .write-text .kept .0) in
     let w2 = then-one w1 4 (omega arith) (spellTenths 2 1 false (g .gain)) (gain .put-tenths .ensures) (gain .put-tenths .kept .1 .0) in

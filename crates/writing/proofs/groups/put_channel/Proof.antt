@@ -3,7 +3,7 @@ use mathlib.Core.Path.{_≡_, refl}
 use mathlib.Core.List.{[], _∷_}
 use lib.ListN.{length, drop}
 use Rattle.frequencies.specs.Frequencies.{spellAmount, spellUnit}
-use Rattle.station.specs.Groups.{channelRules, channelPieces}
+use Rattle.station.specs.Groups.{channelPieces}
 use Rattle.basics.proofs.WriteLaws.{nothing-yet, then-one, then-text, then-some, all-written}
 use borrow.Author.Needs.{needs}
 use native.Mathlib.Omega.{arith}
@@ -20,8 +20,7 @@ part-put-amount-end : tie.Need-part-put-amount-end
 part-put-amount-end c = search needs
 
 put-amount-requires : tie.Need-put-amount-requires
-unfolding channelRules
-put-amount-requires c κs = (search needs, c .before .before .pre .1 .0)
+put-amount-requires c κs = search needs
 
 sub-put-unit : tie.Need-sub-put-unit
 sub-put-unit c = search needs
@@ -71,7 +70,7 @@ returns c =
     let transmit = unit .before .before .before .before in
     let start = transmit .before .before .before in
     let g = start .args .g in
-    let l : length (start .args .s .now) ≡ 20 = start .pre .0 in
+    let l : length (start .args .s .now) ≡ 20 = start .pre in
     let w0 = nothing-yet (start .args .s .now) in
     let w1 = then-one w0 11 (omega arith) (spellAmount (g .transmit)) (transmit .put-amount .ensures) (transmit .put-amount .kept .0) in
     let w2 = then-one w1 1 (omega arith) (spellUnit (g .transmit)) (unit .put-unit .ensures) (unit .put-unit .kept .0) in

@@ -2,7 +2,7 @@
 use mathlib.Core.Path.{_≡_}
 use lib.ListN.{length, drop}
 use Rattle.frequencies.specs.Frequencies.{spellAmount, spellUnit}
-use Rattle.station.specs.Groups.{coordinationRules, coordinationPieces}
+use Rattle.station.specs.Groups.{coordinationPieces}
 use Rattle.basics.proofs.WriteLaws.{nothing-yet, then-one, then-text, then-some, all-written}
 use borrow.Author.Needs.{needs}
 use native.Mathlib.Omega.{arith}
@@ -23,8 +23,7 @@ part-put-amount-end : tie.Need-part-put-amount-end
 part-put-amount-end c = search needs
 
 put-amount-requires : tie.Need-put-amount-requires
-unfolding coordinationRules
-put-amount-requires c κs = (search needs, c .before .before .pre .1 .0)
+put-amount-requires c κs = search needs
 
 sub-put-unit : tie.Need-sub-put-unit
 sub-put-unit c = search needs
@@ -77,7 +76,7 @@ returns c =
     let receive = unit .before .before .before .before in
     let start = receive .before .before .before in
     let g = start .args .g in
-    let l : length (start .args .s .now) ≡ 94 = start .pre .0 in
+    let l : length (start .args .s .now) ≡ 94 = start .pre in
     let w0 = nothing-yet (start .args .s .now) in
     let w1 = then-one w0 11 (omega arith) (spellAmount (g .receive)) (receive .put-amount .ensures) (receive .put-amount .kept .0) in
     let w2 = then-one w1 1 (omega arith) (spellUnit (g .receive)) (unit .put-unit .ensures) (unit .put-unit .kept .0) in

@@ -1,9 +1,9 @@
 -- `writing::groups::put_direction` meets its contract: each field is written after the one before it.
 use mathlib.Core.Path.{_≡_}
 use mathlib.Core.Bool.{true, false}
-use lib.ListN.{length, take, drop}
+use lib.ListN.{length}
 use Rattle.formats.specs.Tenths.{spellTenths}
-use Rattle.station.specs.Groups.{emissionRules, emissionPieces}
+use Rattle.station.specs.Groups.{emissionPieces}
 use Rattle.basics.proofs.WriteLaws.{nothing-yet, then-one, all-written}
 use borrow.Author.Needs.{needs}
 use native.Mathlib.Omega.{arith}
@@ -20,8 +20,7 @@ part-put-tenths-end : tie.Need-part-put-tenths-end
 part-put-tenths-end c = search needs
 
 put-tenths-requires : tie.Need-put-tenths-requires
-unfolding emissionRules
-put-tenths-requires c κs = (search needs, c .before .before .pre .1 .1 .1 .1 .0)
+put-tenths-requires c κs = search needs
 
 sub-put-tenths-2 : tie.Need-sub-put-tenths-2
 sub-put-tenths-2 c = search needs
@@ -33,8 +32,7 @@ part-put-tenths-end-2 : tie.Need-part-put-tenths-end-2
 part-put-tenths-end-2 c = search needs
 
 put-tenths-requires-2 : tie.Need-put-tenths-requires-2
-unfolding emissionRules
-put-tenths-requires-2 c κs = (search needs, c .before .before .before .before .before .before .pre .1 .1 .1 .1 .1 .0)
+put-tenths-requires-2 c κs = search needs
 
 same-length : tie.Need-same-length
 same-length c = search needs
@@ -46,7 +44,7 @@ returns c =
     let azimuth = elevation .before .before .before .before in
     let start = azimuth .before .before .before in
     let g = start .args .g in
-    let l : length (start .args .s .now) ≡ 10 = start .pre .0 in
+    let l : length (start .args .s .now) ≡ 10 = start .pre in
     let w0 = nothing-yet (start .args .s .now) in
     let w1 = then-one w0 5 (omega arith) (spellTenths 3 1 false (g .azimuth)) (azimuth .put-tenths .ensures) (azimuth .put-tenths .kept .1 .0) in
     let w2 = then-one w1 5 (omega arith) (spellTenths 2 1 true (g .elevation)) (elevation .put-tenths2 .ensures) (elevation .put-tenths2 .kept .1 .0) in

@@ -4,7 +4,7 @@ use mathlib.Core.Bool.{true}
 use mathlib.Core.List.{[], _∷_}
 use lib.ListN.{length, drop}
 use Rattle.formats.specs.Tenths.{spellTenths}
-use Rattle.station.specs.Groups.{emissionRules, emissionPieces}
+use Rattle.station.specs.Groups.{emissionPieces}
 use Rattle.basics.proofs.WriteLaws.{nothing-yet, then-one, then-text, then-some, all-written}
 use borrow.Author.Needs.{needs}
 use native.Mathlib.Omega.{arith}
@@ -40,8 +40,7 @@ part-put-tenths-end : tie.Need-part-put-tenths-end
 part-put-tenths-end c = search needs
 
 put-tenths-requires : tie.Need-put-tenths-requires
-unfolding emissionRules
-put-tenths-requires c κs = (search needs, c .before .before .before .before .before .before .before .before .pre .1 .1 .0)
+put-tenths-requires c κs = search needs
 
 sub-write-byte : tie.Need-sub-write-byte
 sub-write-byte c = search needs
@@ -79,7 +78,7 @@ returns c =
     let designation = power .before .before .before .before in
     let start = designation .before .before .before .before .before in
     let g = start .args .g in
-    let l : length (start .args .s .now) ≡ 26 = start .pre .0 in
+    let l : length (start .args .s .now) ≡ 26 = start .pre in
     let w0 = nothing-yet (start .args .s .now) in
     let w1 = then-text w0 9 (omega arith) (g .designation) (designation .write-text .ensures .1) (designation-wide start) (designation .write-text .kept .0) in
     let w2 = then-one w1 6 (omega arith) (spellTenths 3 1 true (g .power)) (power .put-tenths .ensures) (power .put-tenths .kept .1 .0) in

@@ -1,9 +1,9 @@
 -- `writing::groups::put_location` meets its contract: each field is written after the one before it.
 use mathlib.Core.Path.{_≡_}
-use lib.ListN.{length, take, drop}
+use lib.ListN.{length}
 use Rattle.distances.specs.Distances.{spellRadius, spellHeight}
 use Rattle.positions.specs.Positions.{spellPosition}
-use Rattle.station.specs.Groups.{siteRules, sitePieces}
+use Rattle.station.specs.Groups.{sitePieces}
 use Rattle.basics.proofs.WriteLaws.{nothing-yet, then-one, all-written}
 use borrow.Author.Needs.{needs}
 use native.Mathlib.Omega.{arith}
@@ -20,8 +20,7 @@ part-put-position-end : tie.Need-part-put-position-end
 part-put-position-end c = search needs
 
 put-position-requires : tie.Need-put-position-requires
-unfolding siteRules
-put-position-requires c κs = (search needs, c .before .before .before .pre .1 .1 .1 .1 .0)
+put-position-requires c κs = search needs
 
 sub-put-radius : tie.Need-sub-put-radius
 sub-put-radius c = search needs
@@ -33,8 +32,7 @@ part-put-radius-end : tie.Need-part-put-radius-end
 part-put-radius-end c = search needs
 
 put-radius-requires : tie.Need-put-radius-requires
-unfolding siteRules
-put-radius-requires c κs = (search needs, c .before .before .before .before .before .before .before .before .pre .1 .1 .1 .1 .1 .0)
+put-radius-requires c κs = search needs
 
 sub-put-height : tie.Need-sub-put-height
 sub-put-height c = search needs
@@ -46,8 +44,7 @@ part-put-height-end : tie.Need-part-put-height-end
 part-put-height-end c = search needs
 
 put-height-requires : tie.Need-put-height-requires
-unfolding siteRules
-put-height-requires c κs = (search needs, c .before .before .before .before .before .before .before .before .before .before .before .before .pre .1 .1 .1 .1 .1 .1 .0)
+put-height-requires c κs = search needs
 
 same-length : tie.Need-same-length
 same-length c = search needs
@@ -60,7 +57,7 @@ returns c =
     let position = radius .before .before .before .before .before in
     let start = position .before .before .before .before in
     let g = start .args .g in
-    let l : length (start .args .s .now) ≡ 24 = start .pre .0 in
+    let l : length (start .args .s .now) ≡ 24 = start .pre in
     let w0 = nothing-yet (start .args .s .now) in
     let w1 = then-one w0 15 (omega arith) (spellPosition (g .position)) (position .put-position .ensures) (position .put-position .kept .0) in
     let w2 = then-one w1 5 (omega arith) (spellRadius (g .radius)) (radius .put-radius .ensures) (radius .put-radius .kept .0) in

@@ -2,8 +2,8 @@
 use mathlib.Core.Path.{_≡_}
 use lib.ListN.{length, drop}
 use Rattle.days.specs.Dates.{spellDay}
-use Rattle.station.specs.Groups.{siteRules, sitePieces}
-use Rattle.basics.proofs.WriteLaws.{nothing-yet, then-fitting, then-text, then-some, all-written}
+use Rattle.station.specs.Groups.{sitePieces}
+use Rattle.basics.proofs.WriteLaws.{nothing-yet, then-one, then-text, then-some, all-written}
 use borrow.Author.Needs.{needs}
 use native.Mathlib.Omega.{arith}
 use Rattle.writing.proofs.groups.put_site.Statement.{statement}
@@ -16,17 +16,17 @@ name-wide s = search needs
 country-wide : (s : tie.Start) → length (s .args .g .country) ≡ 3
 country-wide s = search needs
 
-sub-write-day : tie.Need-sub-write-day
-sub-write-day c = search needs
+sub-put-day : tie.Need-sub-put-day
+sub-put-day c = search needs
 
-part-write-day-start : tie.Need-part-write-day-start
-part-write-day-start c = search needs
+part-put-day-start : tie.Need-part-put-day-start
+part-put-day-start c = search needs
 
-part-write-day-end : tie.Need-part-write-day-end
-part-write-day-end c = search needs
+part-put-day-end : tie.Need-part-put-day-end
+part-put-day-end c = search needs
 
-write-day-requires : tie.Need-write-day-requires
-write-day-requires c κs = search needs
+put-day-requires : tie.Need-put-day-requires
+put-day-requires c κs = search needs
 
 sub-write-text : tie.Need-sub-write-text
 sub-write-text c = search needs
@@ -74,7 +74,7 @@ same-length : tie.Need-same-length
 same-length c = search needs
 
 returns : tie.Need-returns
-unfolding sitePieces siteRules
+unfolding sitePieces
 returns c =
     let rest = c .before .before in
     let country = rest .before .before .before .before in
@@ -82,9 +82,9 @@ returns c =
     let started = name .before .before .before .before .before .before in
     let start = started .before .before .before in
     let g = start .args .g in
-    let l : length (start .args .s .now) ≡ 55 = start .pre .0 in
+    let l : length (start .args .s .now) ≡ 55 = start .pre in
     let w0 = nothing-yet (start .args .s .now) in
-    let w1 = then-fitting w0 8 (omega arith) (spellDay (g .started)) (started .write-day .ensures .1) (start .pre .1 .0) (started .write-day .kept .0) in
+    let w1 = then-one w0 8 (omega arith) (spellDay (g .started)) (started .put-day .ensures) (started .put-day .kept .0) in
     let w2 = then-text w1 20 (omega arith) (g .name) (name .write-text .ensures .1) (name-wide start) (name .write-text .kept .0) in
     let w3 = then-text w2 3 (omega arith) (g .country) (country .write-text2 .ensures .1) (country-wide start) (country .write-text2 .kept .0) in
     let w4 = then-some w3 24 (omega arith) (drop 3 (sitePieces g)) (rest .put-location .ensures) (rest .put-location .kept .1 .0) in
@@ -94,10 +94,10 @@ pub put-site-spec : {M : Type 1} → statement M
 put-site-spec =
     tie.close
     (tie.spec
-    sub-write-day
-    part-write-day-start
-    part-write-day-end
-    write-day-requires
+    sub-put-day
+    part-put-day-start
+    part-put-day-end
+    put-day-requires
     sub-write-text
     part-write-text-start
     part-write-text-end

@@ -3,8 +3,8 @@ use mathlib.Core.Path.{_≡_, refl}
 use mathlib.Core.List.{[], _∷_}
 use lib.ListN.{length}
 use Rattle.days.specs.Dates.{spellDay}
-use Rattle.station.specs.Groups.{coordinationRules, coordinationPieces}
-use Rattle.basics.proofs.WriteLaws.{nothing-yet, then-fitting, then-text, all-written}
+use Rattle.station.specs.Groups.{coordinationPieces}
+use Rattle.basics.proofs.WriteLaws.{nothing-yet, then-one, then-text, all-written}
 use borrow.Author.Needs.{needs}
 use native.Mathlib.Omega.{arith}
 use Rattle.writing.proofs.groups.put_status.Statement.{statement}
@@ -26,29 +26,29 @@ part-write-byte-end c = search needs
 write-byte-requires : tie.Need-write-byte-requires
 write-byte-requires c κs = search needs
 
-sub-write-day : tie.Need-sub-write-day
-sub-write-day c = search needs
+sub-put-day : tie.Need-sub-put-day
+sub-put-day c = search needs
 
-part-write-day-start : tie.Need-part-write-day-start
-part-write-day-start c = search needs
+part-put-day-start : tie.Need-part-put-day-start
+part-put-day-start c = search needs
 
-part-write-day-end : tie.Need-part-write-day-end
-part-write-day-end c = search needs
+part-put-day-end : tie.Need-part-put-day-end
+part-put-day-end c = search needs
 
-write-day-requires : tie.Need-write-day-requires
-write-day-requires c κs = search needs
+put-day-requires : tie.Need-put-day-requires
+put-day-requires c κs = search needs
 
-sub-write-day-2 : tie.Need-sub-write-day-2
-sub-write-day-2 c = search needs
+sub-put-day-2 : tie.Need-sub-put-day-2
+sub-put-day-2 c = search needs
 
-part-write-day-start-2 : tie.Need-part-write-day-start-2
-part-write-day-start-2 c = search needs
+part-put-day-start-2 : tie.Need-part-put-day-start-2
+part-put-day-start-2 c = search needs
 
-part-write-day-end-2 : tie.Need-part-write-day-end-2
-part-write-day-end-2 c = search needs
+part-put-day-end-2 : tie.Need-part-put-day-end-2
+part-put-day-end-2 c = search needs
 
-write-day-requires-2 : tie.Need-write-day-requires-2
-write-day-requires-2 c κs = search needs
+put-day-requires-2 : tie.Need-put-day-requires-2
+put-day-requires-2 c κs = search needs
 
 sub-write-text : tie.Need-sub-write-text
 sub-write-text c = search needs
@@ -69,7 +69,7 @@ same-length : tie.Need-same-length
 same-length c = search needs
 
 returns : tie.Need-returns
-unfolding coordinationPieces coordinationRules
+unfolding coordinationPieces
 returns c =
     let reference = c .before .before in
     let coordinated = reference .before .before .before .before .before .before in
@@ -77,11 +77,11 @@ returns c =
     let status = requested .before .before .before .before in
     let start = status .before .before .before in
     let g = start .args .g in
-    let l : length (start .args .s .now) ≡ 32 = start .pre .0 in
+    let l : length (start .args .s .now) ≡ 32 = start .pre in
     let w0 = nothing-yet (start .args .s .now) in
     let w1 = then-text w0 1 (omega arith) (g .status ∷ []) (status .write-byte .ensures .1) refl (status .write-byte .kept .0) in
-    let w2 = then-fitting w1 8 (omega arith) (spellDay (g .requested)) (requested .write-day .ensures .1) (start .pre .1 .1 .1 .1 .1 .0) (requested .write-day .kept .0) in
-    let w3 = then-fitting w2 8 (omega arith) (spellDay (g .coordinated)) (coordinated .write-day2 .ensures .1) (start .pre .1 .1 .1 .1 .1 .1 .0) (coordinated .write-day2 .kept .0) in
+    let w2 = then-one w1 8 (omega arith) (spellDay (g .requested)) (requested .put-day .ensures) (requested .put-day .kept .0) in
+    let w3 = then-one w2 8 (omega arith) (spellDay (g .coordinated)) (coordinated .put-day2 .ensures) (coordinated .put-day2 .kept .0) in
     let w4 = then-text w3 15 (omega arith) (g .reference) (reference .write-text .ensures .1) (reference-wide start) (reference .write-text .kept .0) in
     all-written w4 l
 
@@ -93,14 +93,14 @@ put-status-spec =
     part-write-byte-start
     part-write-byte-end
     write-byte-requires
-    sub-write-day
-    part-write-day-start
-    part-write-day-end
-    write-day-requires
-    sub-write-day-2
-    part-write-day-start-2
-    part-write-day-end-2
-    write-day-requires-2
+    sub-put-day
+    part-put-day-start
+    part-put-day-end
+    put-day-requires
+    sub-put-day-2
+    part-put-day-start-2
+    part-put-day-end-2
+    put-day-requires-2
     sub-write-text
     part-write-text-start
     part-write-text-end

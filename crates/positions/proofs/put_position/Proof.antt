@@ -1,4 +1,4 @@
--- `positions::put_arcs` meets its contract: the halves are all of the columns.
+-- `positions::put_position` meets its contract: the halves are all of the columns.
 use mathlib.Core.Path.{_∙_}
 use native.Mathlib.Omega.{arith}
 use lib.Seq.{length-take-le}
@@ -6,8 +6,8 @@ use Rattle.positions.specs.Positions.{spellArc, spellPosition}
 use Rattle.positions.proofs.ArcLaws.{two-parts}
 use Rattle.numerals.proofs.Signs.{in-bits}
 use borrow.Author.Needs.{needs}
-use Rattle.positions.proofs.put_arcs.Statement.{statement}
-use Rattle.positions.proofs.put_arcs.Tie as tie
+use Rattle.positions.proofs.put_position.Statement.{statement}
+use Rattle.positions.proofs.put_position.Tie as tie
 
 sub-put-arc : tie.Need-sub-put-arc
 sub-put-arc c = search needs
@@ -45,8 +45,8 @@ returns c =
     two-parts (a .s .now) (e .put-arc .last .0) (n .put-arc2 .last .0) 8 7 (e .before .before .before .before .pre) (n .before .before .before .before .s .given .0 ∙ length-take-le 8 (a .s .now) (omega arith))
     ∙ rw (e .put-arc .ensures, n .put-arc2 .ensures, in-bits (a .v .east) (e .before .struct-told .given .0 .1), in-bits (a .v .north) (n .before .struct-told2 .given .1 .0 .1))
 
-pub put-arcs-spec : {M : Type 1} → statement M
-put-arcs-spec =
+pub put-position-spec : {M : Type 1} → statement M
+put-position-spec =
     tie.close
     (tie.spec
     sub-put-arc
