@@ -11,7 +11,8 @@ use Rattle.station.specs.declared.Station.{Station}
 use Rattle.lists.specs.Calls.{recordListing, listedLength, listedRecord, lineFiling, filedLine}
 use Rattle.header.specs.Calls.{readHeaderOutcome}
 use Rattle.files.specs.Calls.{showOutcome, shownOffset, shownLength}
-use Rattle.sheet.specs.Calls.{judgeOutcome, judgedInto, replaceOutcome, replacedFile, replacedSheet, replacedRows}
+use Rattle.sheet.specs.Calls.{judgeOutcome, judgedInto}
+use Rattle.mending.specs.Calls.{replaceOutcome, replacedFile, replacedSheet, replacedRows}
 use Rattle.desk_c.specs.Endings.{Answered, AnsweredLeaving}
 use Rattle.rewriting.specs.Records.{respellOutcome, respelledStation, respellHeaderOutcome, respelledHeader, changeOutcome, changedRecord}
 use Rattle.desk_c.specs.Records.{tenthsStated, heightStated}

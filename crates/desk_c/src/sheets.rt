@@ -3,9 +3,9 @@ use basics::outcomes::is_done;
 use basics::outcomes::refusal_number;
 use files::showing::field_place;
 use files::showing::show_outcome;
+use mending::replacing::replace;
 use sheet::judging::judge;
-use sheet::replacing::replace;
-ghost use Rattle.sheet.specs.Promises.{StillJudged};
+ghost use Rattle.mending.specs.Promises.{StillJudged};
 ghost use Rattle.desk_c.specs.Promises.{FilingJudged, FilingReplaced, FieldLocated};
 
 // Judges a file into the lent sheet: 1, 2, 3, or 0.

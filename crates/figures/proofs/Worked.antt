@@ -31,11 +31,11 @@ use Rattle.header.specs.Codes.{headerValue, headerCode, filedHeaderCode}
 use Rattle.files.specs.Files.{stations, recordAt, withRecord, tooLong, notRecords, placesOf, fieldAt, fieldCount}
 use Rattle.files.specs.Calls.{showOutcome, shownField}
 use Rattle.stations.specs.Stations.{codeAt, referenceAt}
-use Rattle.sheet.specs.Forms.{rowAt, badAt, trailerOf, closed, headAt, fitsForm}
+use Rattle.forms.specs.Forms.{rowAt, badAt, trailerOf, closed, headAt, fitsForm}
 use Rattle.sheet.specs.Sheets.{twinAt, rowOf, judgedSheet, sheetOf}
-use Rattle.sheet.specs.Replacing.{touched, mendedRow, writes, rowsWritten}
-use Rattle.sheet.specs.Replacing as replacing
-use Rattle.sheet.specs.Calls.{replaceOutcome, replacedSheet, replacedRows}
+use Rattle.mending.specs.Replacing.{touched, mendedRow, writes, rowsWritten}
+use Rattle.mending.specs.Replacing as replacing
+use Rattle.mending.specs.Calls.{replaceOutcome, replacedSheet, replacedRows}
 use Rattle.basics.specs.Outcomes.{refusal, codeWith, ifDone, firstRefusal}
 use Rattle.figures.specs.Figures.{FigureHolds}
 use Rattle.figures.specs.Worked.{Worked}

@@ -12,7 +12,7 @@ use Rattle.header.specs.Values.{headerOf}
 use Rattle.header.specs.Codes.{headerCode, filedHeaderCode}
 use Rattle.files.specs.Calls.{showOutcome, shownField}
 use Rattle.sheet.specs.Sheets.{sheetOf}
-use Rattle.sheet.specs.Calls.{replacedSheet, replacedRows}
+use Rattle.mending.specs.Calls.{replacedSheet, replacedRows}
 use Rattle.basics.specs.Outcomes.{refusal, codeWith}
 use Rattle.figures.specs.Figures.{Figure, figure, minus, AllHold}
 use lib.IntN.{pos}

@@ -7,9 +7,9 @@ use native.Mathlib.Nat.{add-zero}
 use native.Mathlib.Numerals.{add-one}
 use lib.ListN.{length}
 use Rattle.numerals.proofs.RoundTrip.{spelled-length}
-use Rattle.stations.specs.Counting.{rows}
-use Rattle.sheet.specs.Forms.{codeIn}
-use Rattle.sheet.specs.Sheets.{rowIn, twinIn, bad}
+use Rattle.forms.specs.Counting.{rows}
+use Rattle.forms.specs.Forms.{codeIn}
+use Rattle.forms.specs.OwnForm.{rowIn, twinIn, bad}
 use Rattle.printing.specs.Lines.{places, decimal, stationLine}
 use Rattle.printing.specs.Reports.{rowLine}
 

@@ -16,7 +16,7 @@ use Rattle.files.specs.Files.{stations, recordAt}
 use Rattle.files.proofs.FileLaws.{record-wide}
 use Rattle.basics.proofs.RefusalLaws.{done}
 use Rattle.files.proofs.LengthLaws.{length-passed, whole-records}
-use Rattle.stations.specs.Counting.{rows}
+use Rattle.forms.specs.Counting.{rows}
 use Rattle.semicolons.specs.Lines.{lastByte, linesFrom, linesOf}
 use Rattle.basics.specs.Outcomes.{refusal, ifDone}
 use Rattle.lists.specs.Whole.{broughtIn, recordsOf}

@@ -22,7 +22,7 @@ use Rattle.files.proofs.FileLaws.{record-wide}
 use Rattle.basics.specs.Outcomes.{firstRefusal}
 use Rattle.basics.proofs.RefusalLaws.{done}
 use Rattle.files.proofs.LengthLaws.{length-passed, whole-records}
-use Rattle.stations.specs.Counting.{rows}
+use Rattle.forms.specs.Counting.{rows}
 use Rattle.semicolons.specs.Lines.{isSemicolon, isFeed, lastByte, isLine, joinedLine, lineOf}
 use Rattle.lists.specs.Calls.{lineOutcome}
 use Rattle.semicolons.proofs.CountLaws.{how-many-append}

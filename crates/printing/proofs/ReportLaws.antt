@@ -12,7 +12,7 @@ use Rattle.basics.specs.declared.Outcome.{Outcome}
 use Rattle.files.specs.Files.{stations, mostStations}
 use Rattle.basics.proofs.RefusalLaws.{done}
 use Rattle.files.proofs.LengthLaws.{length-passed, whole-records}
-use Rattle.stations.specs.Counting.{rows}
+use Rattle.forms.specs.Counting.{rows}
 use Rattle.sheet.specs.Sheets.{sheetOf}
 use Rattle.printing.specs.Lines.{refusedLine}
 use Rattle.printing.specs.Reports.{sheetReport, lengthOutcome, reportOf}

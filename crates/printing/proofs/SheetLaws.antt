@@ -12,8 +12,9 @@ use Rattle.basics.proofs.RefusalLaws.{done, if-done, passes, none-left, asked-o
 use Rattle.files.specs.Files.{stations}
 use Rattle.files.specs.Calls.{fileTests}
 use Rattle.files.proofs.LengthLaws.{length-passed}
-use Rattle.stations.specs.Counting.{count}
-use Rattle.sheet.specs.Sheets.{sheetLength, bad, foundIn, judgedSheet, sheetOf}
+use Rattle.forms.specs.Counting.{count}
+use Rattle.forms.specs.OwnForm.{sheetLength, bad, foundIn}
+use Rattle.sheet.specs.Sheets.{judgedSheet, sheetOf}
 use Rattle.sheet.specs.Calls.{judgeOutcome, judgedInto}
 use Rattle.sheet.proofs.SheetLaws.{judged-found}
 use Rattle.printing.specs.Reports.{sheetLines, sheetReport, lengthOutcome}

@@ -5,7 +5,7 @@ use Prim.Native.Nat.{ℕ}
 use Prim.Native.String.{String}
 use Rattle.numerals.specs.Numbers.{spellDigits}
 use Rattle.columns.specs.Texts.{bytes, every}
-use Rattle.sheet.specs.Forms.{rowAt, badAt, headAt}
+use Rattle.forms.specs.Forms.{rowAt, badAt, headAt}
 use Rattle.printing.specs.Lines.{places, decimal, lineFeed, headerLine, stationLine, totalLine, brokenLine}
 use Rattle.printing.specs.Reports.{rowLine, sheetLines, sheetReport}
 

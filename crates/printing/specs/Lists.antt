@@ -7,7 +7,7 @@ use Rattle.basics.specs.Outcomes.{refusal, ifDone}
 use Rattle.station.specs.Spelling.{spellStation}
 use Rattle.station.specs.Codes.{valueOf, stationCode}
 use Rattle.files.specs.Files.{stations, recordAt}
-use Rattle.stations.specs.Counting.{rows}
+use Rattle.forms.specs.Counting.{rows}
 use Rattle.semicolons.specs.Lines.{lineOf}
 use Rattle.printing.specs.Lines.{refusedLine, brokenLine}
 use Rattle.printing.specs.Reports.{lengthOutcome}

@@ -6,9 +6,10 @@ use Rattle.basics.specs.Outcomes.{refusal, ifDone, firstRefusal}
 use Rattle.basics.specs.declared.Outcome.{Outcome}
 use Rattle.files.specs.Files.{stations}
 use Rattle.files.specs.Calls.{fileTests}
-use Rattle.stations.specs.Counting.{count, rows}
-use Rattle.sheet.specs.Forms.{codeIn}
-use Rattle.sheet.specs.Sheets.{rowIn, twinIn, bad, sheetOf, headIn}
+use Rattle.forms.specs.Counting.{count, rows}
+use Rattle.forms.specs.Forms.{codeIn}
+use Rattle.forms.specs.OwnForm.{rowIn, twinIn, bad, headIn}
+use Rattle.sheet.specs.Sheets.{sheetOf}
 use Rattle.printing.specs.Lines.{refusedLine, headerLine, stationLine, totalLine}
 
 -- The line of row k: its code and its twin where it is bad, else none.

@@ -10,7 +10,7 @@ use files::lengths::stations_in;
 use lists::records::record_to_line;
 ghost use Prim.Native.Nat.{_+_, _*_, _≤_};
 ghost use lib.ListN.{length};
-ghost use Rattle.stations.specs.Counting.{rows};
+ghost use Rattle.forms.specs.Counting.{rows};
 ghost use Rattle.printing.specs.Lists.{entryOf};
 ghost use Rattle.printing.specs.Promises.{Appended, ListWritten};
 

@@ -1,14 +1,4 @@
-pub mod RowLaws
 pub mod TwinLaws
-pub mod FormLaws
 pub mod SheetLaws
-pub mod ReaderLaws
-pub mod RowsMended
-pub mod LocalLaws
-pub mod MendForm
-pub mod MendLaws
-pub mod CallLaws
-pub mod Demand3
+pub mod JudgeLaws
 pub mod Unique
-pub mod EitherOrder
-pub mod AnyOrder

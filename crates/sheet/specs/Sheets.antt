@@ -1,41 +1,13 @@
--- Document 01, "The sheet": a row for each station and the trailer. What is said of rows holds for any width.
-use Prim.Native.Nat.{ℕ, _+_, _-_, _*_, _/_}
-use mathlib.Core.Bool.{Bool}
+-- Document 01, "The sheet": a row for each station and the trailer.
+use Prim.Native.Nat.{ℕ, _-_}
 use mathlib.Core.List.{List, [], _∷_}
-use lib.ListN.{length}
-use Rattle.columns.specs.Texts.{bytes, same}
+use Rattle.columns.specs.Texts.{same}
 use Rattle.header.specs.Codes.{filedHeaderCode}
 use Rattle.files.specs.Files.{stations, recordAt}
-use Rattle.stations.specs.Counting.{first, rows}
 use Rattle.stations.specs.Stations.{codeAt, referenceAt}
-use Rattle.sheet.specs.Forms.{Form, trailerBytes, sheetBytes, rowBytes, numberIn, rowAt, badAt, closed, headAt, lowestAt, foundAt, fitsForm}
-
--- The form of sheets: a row is its code and m numbers of b bytes each.
-abbrev pub rowNumbers : ℕ
-rowNumbers = 1
-
-abbrev pub numberBytes : ℕ
-numberBytes = 1
-
-abbrev pub mark : List ℕ
-mark = bytes "2A"
-
-abbrev pub form : Form
-form = record { width = 1 + rowNumbers * numberBytes; bytes = numberBytes; mark = mark }
-
--- The length of a row, of the trailer, and of a sheet of n stations.
-abbrev pub rowWidth : ℕ
-rowWidth = form .width
-
-abbrev pub trailerLength : ℕ
-trailerLength = trailerBytes form
-
-abbrev pub sheetLength : ℕ → ℕ
-sheetLength n = sheetBytes form n
-
--- How many rows a sheet has before its trailer.
-unfoldable pub rowsIn : List ℕ → ℕ
-rowsIn sheet = (length sheet - trailerLength) / rowWidth
+use Rattle.forms.specs.Counting.{first, rows}
+use Rattle.forms.specs.Forms.{rowBytes}
+use Rattle.forms.specs.OwnForm.{form, withTrailer}
 
 -- Station k's twin: the lowest i below k whose 13X bytes equal those of k, else 0; records that break rules count too.
 unfoldable pub twinAt : List ℕ → ℕ → ℕ
@@ -44,31 +16,6 @@ twinAt file k = first (λ i. same (referenceAt file i) (referenceAt file k)) (k 
 -- Row k: station k's code, and its twin.
 unfoldable pub rowOf : List ℕ → ℕ → List ℕ
 rowOf file k = rowBytes form (codeAt file k) (twinAt file k ∷ [])
-
--- In this form: the row that stands for station k, whether it is bad, the n rows that stand with their trailer, the header code in it, and whether it fits n rows.
-abbrev pub rowIn : List ℕ → ℕ → List ℕ
-rowIn sheet k = rowAt form sheet k
-
-abbrev pub bad : List ℕ → ℕ → Bool
-bad sheet k = badAt form sheet k
-
-abbrev pub withTrailer : ℕ → ℕ → List ℕ → List ℕ
-withTrailer n head standing = closed form n head standing
-
-abbrev pub headIn : List ℕ → ℕ → ℕ
-headIn sheet n = headAt form sheet n
-
-abbrev pub lowestIn : List ℕ → ℕ → ℕ
-lowestIn sheet n = lowestAt form sheet n
-
-abbrev pub foundIn : List ℕ → ℕ → ℕ
-foundIn sheet n = foundAt form sheet n
-
-abbrev pub twinIn : List ℕ → ℕ → ℕ
-twinIn sheet k = numberIn form (rowIn sheet k) 0
-
-abbrev pub trailerFits : List ℕ → ℕ → Bool
-trailerFits sheet n = fitsForm form sheet n
 
 -- The sheet judged from a file of n stations,
 unfoldable pub judgedSheet : List ℕ → ℕ → List ℕ

@@ -1,22 +1,27 @@
 // Judging: the whole sheet of a file.
-use crate::forms::ROW_WIDTH;
-use crate::forms::TRAILER_LENGTH;
 use crate::rows::put_row;
 use crate::trailers::put_trailer;
 use basics::Outcome;
 use basics::outcomes::is_done;
+use files::lengths::MOST_STATIONS;
 use files::lengths::check_file;
 use files::lengths::record_in;
 use files::lengths::stations_in;
+use forms::form::ROW_WIDTH;
+use forms::form::TRAILER_LENGTH;
 use header_judging::filed_header_code;
 ghost use mathlib.Core.Path.{_≡_};
 ghost use mathlib.Core.List.{_++_};
 ghost use Prim.Native.Nat.{_*_};
 ghost use lib.ListN.{drop};
-ghost use Rattle.stations.specs.Counting.{rows};
-ghost use Rattle.sheet.specs.Sheets.{rowOf, judgedSheet, rowWidth};
+ghost use Rattle.forms.specs.Counting.{rows};
+ghost use Rattle.forms.specs.OwnForm.{rowWidth};
+ghost use Rattle.sheet.specs.Sheets.{rowOf, judgedSheet};
 ghost use Rattle.sheet.specs.Calls.{judgeOutcome};
 ghost use Rattle.sheet.specs.Promises.{SheetJudged, Sized};
+
+// The most bytes that a sheet has.
+pub const LONGEST_SHEET: usize = ROW_WIDTH * MOST_STATIONS + TRAILER_LENGTH;
 
 // Writes the rows of all n stations.
 fn put_rows(file: &[u8], sheet: &mut [u8], n: usize)
@@ -41,7 +46,7 @@ fn judge_sized(file: &[u8], sheet: &mut [u8], n: usize)
 }
 
 // How judging ends: 1, 2, 3, or done.
-pub(crate) fn judge_outcome(file: &[u8], sheet: &[u8]) -> Outcome
+pub fn judge_outcome(file: &[u8], sheet: &[u8]) -> Outcome
     ensures { λ r. ⌜ r ≡ judgeOutcome (now (file .entry)) (now (sheet .entry)) ⌝ }
 {
     let length = check_file(file);

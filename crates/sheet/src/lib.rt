@@ -1,9 +1,6 @@
-// Verdict sheets: judged from a file, and mended when a record is replaced.
+// Verdict sheets, judged from a file.
 
-pub mod forms;
 pub mod judging;
-pub mod readers;
-pub mod replacing;
-mod rows;
-mod trailers;
+pub mod rows;
+pub mod trailers;
 mod twins;

@@ -1,6 +1,6 @@
 // The bytes of one row: no other file knows what a row holds.
-use crate::forms::ROW_WIDTH;
 use crate::twins::twin;
+use forms::form::ROW_WIDTH;
 use stations::code;
 ghost use mathlib.Core.Path.{_≡_};
 ghost use mathlib.Core.List.{_++_};
@@ -8,7 +8,8 @@ ghost use Prim.Native.Nat.{_+_, _*_, _≤_};
 ghost use lib.ListN.{length, take, drop};
 ghost use Rattle.basics.specs.Fields.{recordLength};
 ghost use Rattle.files.specs.Files.{mostStations};
-ghost use Rattle.sheet.specs.Sheets.{rowOf, rowWidth};
+ghost use Rattle.forms.specs.OwnForm.{rowWidth};
+ghost use Rattle.sheet.specs.Sheets.{rowOf};
 
 // Writes station k's row into the bytes that it is lent.
 fn put_bytes(row: &mut [u8], file: &[u8], k: usize)
@@ -22,7 +23,7 @@ fn put_bytes(row: &mut [u8], file: &[u8], k: usize)
 }
 
 // Writes row i + 1 into its own bytes of the sheet.
-pub(crate) fn put_row(sheet: &mut [u8], file: &[u8], i: usize)
+pub fn put_row(sheet: &mut [u8], file: &[u8], i: usize)
     requires { ⌜ (i + 1 ≤ mostStations) × (rowWidth * i + rowWidth ≤ length (now sheet)) × (recordLength * (i + 1) + recordLength ≤ length (now file)) ⌝ }
     ensures { λ _. ⌜ now (sheet .exit) ≡ take (rowWidth * i) (now (sheet .entry)) ++ (rowOf (now (file .entry)) (i + 1) ++ drop (rowWidth * i + rowWidth) (now (sheet .entry))) ⌝ }
 {

@@ -1,16 +1,16 @@
 // The trailer: what a sheet says of itself, its header, and the rows that stand.
-use crate::forms::HEAD_PLACE;
-use crate::forms::MARK_PLACE;
-use crate::forms::ROW_WIDTH;
-use crate::forms::TRAILER_LENGTH;
-use crate::forms::WIDTH_BYTE;
-use crate::readers::is_bad;
 use columns::texts::equal;
+use forms::form::HEAD_PLACE;
+use forms::form::MARK_PLACE;
+use forms::form::ROW_WIDTH;
+use forms::form::TRAILER_LENGTH;
+use forms::form::WIDTH_BYTE;
+use forms::readers::is_bad;
 ghost use mathlib.Core.Path.{_≡_};
 ghost use Prim.Native.Nat.{_+_, _*_, _≤_};
 ghost use lib.ListN.{length, take};
-ghost use Rattle.stations.specs.Counting.{first, count};
-ghost use Rattle.sheet.specs.Sheets.{bad, withTrailer, trailerFits, rowWidth, sheetLength};
+ghost use Rattle.forms.specs.Counting.{first, count};
+ghost use Rattle.forms.specs.OwnForm.{bad, withTrailer, trailerFits, rowWidth, sheetLength};
 ghost use Rattle.files.specs.Files.{mostStations};
 
 // The lowest of n rows that is bad, or 0.
@@ -46,7 +46,7 @@ fn bad_rows(sheet: &[u8], n: usize) -> u8
 }
 
 // Writes the trailer of the n rows that stand, with the header's code, behind them.
-pub(crate) fn put_trailer(sheet: &mut [u8], n: usize, head: u8)
+pub fn put_trailer(sheet: &mut [u8], n: usize, head: u8)
     requires { ⌜ (n ≤ mostStations) × (length (now sheet) ≡ sheetLength n) ⌝ }
     ensures { λ _. ⌜ now (sheet .exit) ≡ withTrailer n head (take (rowWidth * n) (now (sheet .entry))) ⌝ }
 {
@@ -68,7 +68,7 @@ pub(crate) fn put_trailer(sheet: &mut [u8], n: usize, head: u8)
 }
 
 // Whether the trailer has the distance, the width and the mark of a sheet of n rows.
-pub(crate) fn fits_trailer(sheet: &[u8], n: usize) -> bool
+pub fn fits_trailer(sheet: &[u8], n: usize) -> bool
     requires { ⌜ (n ≤ mostStations) × (length (now sheet) ≡ sheetLength n) ⌝ }
     ensures { λ r. ⌜ r ≡ trailerFits (now (sheet .entry)) n ⌝ }
 {

@@ -7,10 +7,11 @@ use native.Mathlib.Omega.{arith}
 use lib.Dec.{eqb}
 use lib.ListN.{length, take, drop, length-append, length-take, length-drop}
 use lib.Seq.{take-at, drop-at}
-use borrow.Author.Tests.{eq-eqb, eqb-true}
+use borrow.Author.Tests.{eqb-true}
 use Rattle.columns.specs.Sets.{isDigit}
 use Rattle.columns.specs.Texts.{every, same, sized}
 use Rattle.columns.proofs.TextLaws.{and-split, same-length, not-same}
+use Rattle.columns.proofs.SameLaws.{same-refl}
 use Rattle.vehicles.specs.Digits.{numberDigits, isNumber, lastRight}
 use Rattle.vehicles.specs.Names.{before, behind, nameOf, middle, holdsNumber, numberIn, numberOffset}
 
@@ -18,12 +19,6 @@ use Rattle.vehicles.specs.Names.{before, behind, nameOf, middle, holdsNu
 pub number-length : (t : List ℕ) → isNumber t ≡ true → length t ≡ numberDigits
 unfolding isNumber
 number-length t h = eqb-true (length t) numberDigits (and-split (sized numberDigits t) (every isDigit t) h .0)
-
--- a text is the same as itself
-same-refl : (a : List ℕ) → same a a ≡ true
-unfolding same
-same-refl [] = refl
-same-refl (x ∷ xs) = rw (eq-eqb x x refl) (same-refl xs)
 
 -- A name is eight bytes longer than its number,
 name-length : (t : List ℕ) → length (nameOf t) ≡ 8 + length t

@@ -5,7 +5,7 @@ use Prim.Native.Nat.{_+_, _-_}
 use native.Mathlib.Nat.{add-sub-cancel-left}
 use lib.ListN.{length}
 use borrow.Rule.Slice.PartMut.{mid-len, midOf}
-use Rattle.sheet.proofs.SheetLaws.{copy-all}
+use Rattle.forms.proofs.CopyLaws.{copy-all}
 use Rattle.printing.proofs.AppendLaws.{put-in}
 use borrow.Author.Needs.{needs}
 use Rattle.printing.proofs.pieces.put_text.Statement.{statement}

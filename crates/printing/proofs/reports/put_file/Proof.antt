@@ -3,7 +3,7 @@ use denote.Ref.{now}
 use mathlib.Core.Path.{sym}
 use lib.Seq.{length-take-le}
 use Rattle.printing.proofs.ReportLaws.{few}
-use Rattle.sheet.specs.Sheets.{sheetLength}
+use Rattle.forms.specs.OwnForm.{sheetLength}
 use native.Mathlib.Omega.{arith}
 use borrow.Author.Needs.{needs}
 use Rattle.printing.proofs.reports.put_file.Statement.{statement}

@@ -4,7 +4,7 @@ use mathlib.Core.Path.{_≡_, sym, _∙_}
 use mathlib.Core.Bool.{true, false}
 use Prim.Native.Nat.{_+_}
 use borrow.Author.Tests.{not-true, not-false}
-use Rattle.sheet.specs.Sheets.{bad}
+use Rattle.forms.specs.OwnForm.{bad}
 use Rattle.printing.proofs.AppendLaws.{none}
 use Rattle.printing.proofs.LineLaws.{good-row, bad-row}
 use native.Mathlib.Omega.{arith}

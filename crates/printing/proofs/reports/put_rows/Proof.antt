@@ -3,7 +3,7 @@ use denote.Ref.{now}
 use mathlib.Core.Path.{_≡_}
 use Prim.Native.Nat.{_+_, _-_, _*_, _≤_}
 use lib.ListN.{length}
-use Rattle.stations.specs.Counting.{rows}
+use Rattle.forms.specs.Counting.{rows}
 use Rattle.printing.specs.Reports.{rowLine}
 use Rattle.printing.specs.Promises.{Appended}
 use Rattle.printing.proofs.AppendLaws.{none, then}

@@ -7,7 +7,7 @@ use borrow.Author.Tests.{not-true}
 use Rattle.basics.proofs.RefusalLaws.{done, went-on}
 use Rattle.sheet.specs.Sheets.{judgedSheet}
 use Rattle.sheet.specs.Calls.{judgeOutcome}
-use Rattle.sheet.proofs.CallLaws.{judge-sized-up, judge-refused, judge-done, sized-at}
+use Rattle.sheet.proofs.JudgeLaws.{judge-sized-up, judge-refused, judge-done, sized-at}
 use borrow.Author.Needs.{needs}
 use Rattle.sheet.proofs.judging.judge.Statement.{statement}
 use Rattle.sheet.proofs.judging.judge.Tie as tie

@@ -11,7 +11,7 @@ use Rattle.basics.proofs.RefusalLaws.{done, went-on, stopped, passes, stops, no
 use Rattle.files.specs.Files.{stations}
 use Rattle.files.specs.Calls.{fileTests}
 use Rattle.files.proofs.LengthLaws.{length-passed, whole-records}
-use Rattle.sheet.specs.Sheets.{sheetLength}
+use Rattle.forms.specs.OwnForm.{sheetLength}
 use Rattle.sheet.specs.Calls.{judgeOutcome}
 use native.Mathlib.Omega.{arith}
 use borrow.Author.Needs.{needs}

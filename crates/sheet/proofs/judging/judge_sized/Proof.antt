@@ -7,8 +7,9 @@ use lib.ListN.{length, drop}
 use Rattle.header.specs.Codes.{filedHeaderCode}
 use Rattle.files.specs.Files.{recordAt}
 use Rattle.files.proofs.FileLaws.{record-wide}
-use Rattle.sheet.specs.Sheets.{rowOf, judgedSheet, rowWidth}
-use Rattle.sheet.proofs.RowLaws.{take-rows}
+use Rattle.forms.specs.OwnForm.{rowWidth}
+use Rattle.sheet.specs.Sheets.{rowOf, judgedSheet}
+use Rattle.forms.proofs.RowLaws.{take-rows}
 use Rattle.sheet.proofs.SheetLaws.{rows-wide}
 use native.Mathlib.Omega.{arith}
 use borrow.Author.Needs.{needs}

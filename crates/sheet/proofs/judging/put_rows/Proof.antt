@@ -4,9 +4,10 @@ use mathlib.Core.Path.{_≡_, _∙_}
 use mathlib.Core.List.{_++_}
 use Prim.Native.Nat.{_+_, _-_, _*_, _≤_}
 use lib.ListN.{length, drop}
-use Rattle.stations.specs.Counting.{rows}
-use Rattle.sheet.specs.Sheets.{rowOf, rowWidth}
-use Rattle.sheet.proofs.RowLaws.{row-put}
+use Rattle.forms.specs.Counting.{rows}
+use Rattle.forms.specs.OwnForm.{rowWidth}
+use Rattle.sheet.specs.Sheets.{rowOf}
+use Rattle.forms.proofs.RowLaws.{row-put}
 use Rattle.sheet.proofs.SheetLaws.{rows-wide}
 use native.Mathlib.Omega.{arith}
 use borrow.Author.Needs.{needs}

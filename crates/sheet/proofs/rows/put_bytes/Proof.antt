@@ -2,9 +2,10 @@
 use denote.Ref.{now}
 use mathlib.Core.List.{_∷_, []}
 use mathlib.Core.Path.{_∙_}
-use Rattle.sheet.specs.Sheets.{rowOf, form}
-use Rattle.sheet.proofs.SheetLaws.{copy-all}
-use Rattle.sheet.specs.Forms.{rowBytes}
+use Rattle.forms.specs.OwnForm.{form}
+use Rattle.sheet.specs.Sheets.{rowOf}
+use Rattle.forms.proofs.CopyLaws.{copy-all}
+use Rattle.forms.specs.Forms.{rowBytes}
 use borrow.Author.Needs.{needs}
 use Rattle.sheet.proofs.rows.put_bytes.Statement.{statement}
 use Rattle.sheet.proofs.rows.put_bytes.Tie as tie

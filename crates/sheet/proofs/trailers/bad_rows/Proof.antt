@@ -3,9 +3,9 @@ use denote.Ref.{now}
 use mathlib.Core.Logic.{⊎-elim}
 use mathlib.Core.Path.{_≡_, _∙_}
 use Prim.Native.Nat.{_≤_, _-_}
-use Rattle.stations.specs.Counting.{count}
-use Rattle.sheet.specs.Sheets.{bad}
-use Rattle.stations.proofs.CountLaws.{count-hit, count-miss}
+use Rattle.forms.specs.Counting.{count}
+use Rattle.forms.specs.OwnForm.{bad}
+use Rattle.forms.proofs.CountLaws.{count-hit, count-miss}
 use native.Mathlib.Omega.{arith}
 use borrow.Author.Needs.{needs}
 use Rattle.sheet.proofs.trailers.bad_rows.Statement.{statement}

@@ -9,9 +9,9 @@ use lib.ListN.{take, drop}
 use borrow.Author.Tests.{not-true, not-false}
 use Rattle.columns.specs.Texts.{same}
 use Rattle.columns.proofs.TextLaws.{from-on}
-use Rattle.sheet.specs.Sheets.{form, mark, rowWidth, numberBytes}
-use Rattle.sheet.proofs.FormLaws.{form-parts}
-use Rattle.sheet.specs.Forms.{shape}
+use Rattle.forms.specs.OwnForm.{form, mark, rowWidth, numberBytes}
+use Rattle.forms.proofs.FormLaws.{form-parts}
+use Rattle.forms.specs.Forms.{shape}
 use borrow.Author.Needs.{needs}
 use Rattle.sheet.proofs.trailers.fits_trailer.Statement.{statement}
 use Rattle.sheet.proofs.trailers.fits_trailer.Tie as tie

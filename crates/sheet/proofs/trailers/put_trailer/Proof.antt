@@ -6,10 +6,10 @@ use native.Mathlib.Nat.{le-of-eq}
 use lib.ListN.{length}
 use lib.Seq.{length-take-le}
 use borrow.Rule.Slice.PartMut.{mid-len, midOf}
-use Rattle.sheet.specs.Forms.{trailerOf, closed}
-use Rattle.sheet.proofs.SheetLaws.{copy-all, back-from}
+use Rattle.forms.specs.Forms.{trailerOf, closed}
+use Rattle.forms.proofs.CopyLaws.{copy-all, back-from}
 use native.Mathlib.Omega.{arith}
-use Rattle.sheet.specs.Sheets.{form, rowWidth, trailerLength}
+use Rattle.forms.specs.OwnForm.{form, rowWidth, trailerLength}
 use borrow.Author.Needs.{needs}
 use Rattle.sheet.proofs.trailers.put_trailer.Statement.{statement}
 use Rattle.sheet.proofs.trailers.put_trailer.Tie as tie

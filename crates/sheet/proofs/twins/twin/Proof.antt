@@ -2,8 +2,8 @@
 use denote.Ref.{now}
 use mathlib.Core.Path.{_≡_}
 use Prim.Native.Nat.{_<_, _-_}
-use Rattle.stations.specs.Counting.{first}
-use Rattle.stations.proofs.CountLaws.{first-missed}
+use Rattle.forms.specs.Counting.{first}
+use Rattle.forms.proofs.CountLaws.{first-missed}
 use Rattle.sheet.proofs.TwinLaws.{bearsSame, twin-found, twin-none}
 use borrow.Author.Needs.{needs}
 use Rattle.sheet.proofs.twins.twin.Statement.{statement}

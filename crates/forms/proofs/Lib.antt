@@ -1,0 +1,5 @@
+pub mod CountLaws
+pub mod CopyLaws
+pub mod RowLaws
+pub mod FormLaws
+pub mod ReaderLaws
