@@ -147,7 +147,7 @@ def filing(stations, head=0, count=None):
 
 
 def full():
-    """250 stations: each code once, twins of good and of broken stations, and good ones between."""
+    """298 stations: each code once, twins of good and of broken stations, and good ones between."""
     made = [station(k, code=k) for k in range(1, 40)]                       # 1 to 39: each code
     made += [station(40 + i, good=i) for i in range(len(GOOD))]              # 40 to 46: good, each in its way
     made += [station(47, owner=40), station(48, owner=40)]                   # two twins of one good station
@@ -156,7 +156,7 @@ def full():
     while len(made) < 99:
         made.append(station(len(made) + 1, good=len(made) % len(GOOD)))
     made += [station(100), station(101, code=39), station(102)]
-    while len(made) < 250:
+    while len(made) < 298:
         k = len(made) + 1
         turn = k % 5
         if turn == 0:
@@ -193,18 +193,23 @@ def cases():
     yield "days_of_the_calendar", *dated("29022024", 0)
     yield "header_date_of_no_day", *dated("30022024", 10)
     whole, lines = filing(full())
-    assert len(whole) == 54969
+    assert len(whole) == 65481
     yield "full", whole, lines
-    yield "full_and_good", *filing([station(k, good=k % len(GOOD)) for k in range(1, 251)])
-    yield "full_and_bad", *filing([station(k, code=39 - k % 9, owner=k if k < 128 else 127) for k in range(1, 251)])
+    yield "full_and_good", *filing([station(k, good=k % len(GOOD)) for k in range(1, 299)])
+    yield "full_and_bad", *filing([station(k, code=39 - k % 9, owner=k if k < 260 else 259) for k in range(1, 299)])
+    # Numbers of one byte and of two: n, the lowest bad row, the number of bad rows, and a twin.
+    for n in (1, 250, 251, 255, 256, 257):
+        yield "stations_%d" % n, *filing([station(k) for k in range(1, n)] + [station(n, code=7, owner=n)])
+    yield "bad_256", *filing([station(k, code=17) for k in range(1, 257)])
+    yield "twin_above_255", *filing([station(k) for k in range(1, 298)] + [station(298, owner=257)])
     yield "empty", b"", "refused 2\n"
     yield "one_byte", b"0", "refused 2\n"
     yield "bytes_218", header(0)[:218], "refused 2\n"
     yield "bytes_220", header(0) + b" ", "refused 2\n"
     yield "line_feed_at_the_end", filing(twice)[0] + b"\n", "refused 2\n"
-    yield "bytes_54968", whole[:54968], "refused 2\n"
-    yield "bytes_54970", whole + b" ", "refused 1\n"
-    yield "stations_251", header(251) + b"".join(station(k)[0] for k in range(1, 252)), "refused 1\n"
+    yield "bytes_65480", whole[:65480], "refused 2\n"
+    yield "bytes_65482", whole + b" ", "refused 1\n"
+    yield "stations_299", header(299) + b"".join(station(k)[0] for k in range(1, 300)), "refused 1\n"
 
 
 def write(path, content):

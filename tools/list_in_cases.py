@@ -83,7 +83,7 @@ def coming_in(lines):
     written, said = [], []
     refused = 0
     for n, (_, what) in enumerate(lines, 1):
-        if isinstance(what, bytes) and len(written) == 250:
+        if isinstance(what, bytes) and len(written) == 298:
             what = "refused 1"
         if isinstance(what, bytes):
             written.append(what)
@@ -185,10 +185,10 @@ def cases():
         bad(b"\0", 10),
     ]
     yield "other_bytes", [damaged({"4A": "1010_M\x7f"}, 9, 9), bad(bytes(c for c in range(256) if c != 10) + b"\n", 10), good(1)]
-    yield "lines_250", [good(k) for k in range(1, 251)]
-    yield "lines_252", [good(k, columns) for k in range(1, 253)]
-    yield "bad_behind_250", [good(k) for k in range(1, 251)] + [
-        damaged({"6A": "XX"}, 9, 4), good(252), bad(b"\n", 10), too_long("6A"), good(255), bad(good(256)[0][:-1], 10),
+    yield "lines_298", [good(k) for k in range(1, 299)]
+    yield "lines_300", [good(k, columns) for k in range(1, 301)]
+    yield "bad_behind_298", [good(k) for k in range(1, 299)] + [
+        damaged({"6A": "XX"}, 9, 4), good(300), bad(b"\n", 10), too_long("6A"), good(303), bad(good(304)[0][:-1], 10),
     ]
     yield "bad_among_good", [
         good(1), bad(b"\n", 10), good(2), damaged({"9A": "360.0"}, 9, 17), too_long("4B"), good(3), long_lines(5000)[0], good(4), good(5),

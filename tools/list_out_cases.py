@@ -91,9 +91,9 @@ def each_in_turn(changes):
 
 
 def full():
-    """250 stations: broken ones at the ends and between good ones of every kind."""
+    """298 stations: broken ones at the ends and between good ones of every kind."""
     kinds = GOOD + OTHERWISE
-    return [broken(k, k % 39 + 1) if k in (1, 250) or k % 3 == 0 else good(k, kinds[k % len(kinds)]) for k in range(1, 251)]
+    return [broken(k, k % 39 + 1) if k in (1, 298) or k % 3 == 0 else good(k, kinds[k % len(kinds)]) for k in range(1, 299)]
 
 
 def cases():
@@ -106,17 +106,17 @@ def cases():
     yield "each_code", *filing([broken(k, k // 2) if k % 2 == 0 else good(k, GOOD[k % len(GOOD)]) for k in range(1, 80)])
     yield "one_broken", *filing([broken(1, 39)])
     whole, lines = filing(full())
-    assert len(whole) == 54969
+    assert len(whole) == 65481
     yield "full", whole, lines
-    longest, lines = filing(each_in_turn([LONGEST] * 250))
-    assert len(lines) == 62250
+    longest, lines = filing(each_in_turn([LONGEST] * 298))
+    assert len(lines) == 74202
     yield "full_and_longest", longest, lines
     yield "empty", b"", "refused 2\n"
     yield "one_byte", b"0", "refused 2\n"
     yield "bytes_218", header(0)[:218], "refused 2\n"
     yield "bytes_220", header(0) + b" ", "refused 2\n"
-    yield "bytes_54968", whole[:54968], "refused 2\n"
-    yield "bytes_54970", whole + b" ", "refused 1\n"
+    yield "bytes_65480", whole[:65480], "refused 2\n"
+    yield "bytes_65482", whole + b" ", "refused 1\n"
 
 
 def main():

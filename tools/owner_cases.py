@@ -147,8 +147,8 @@ def cases():
     yield "a_bad_header", 1, "file_list --yes my list.csv new", {"my": header(7, {"version": "1.1"}) + b"".join(RECORDS), "list.csv": LIST}, {}
     yield "old_is_no_filing", 1, "file_list --yes my list.csv new", {"my": SEVEN[:-1], "list.csv": LIST}, {}
     yield "a_first_list", 0, "file_list --yes my list.csv my", {"my": header(0), "list.csv": LIST}, {"my": SEVEN}
-    many = [good(k) for k in range(1, 252)]
-    yield "stations_251", 1, "file_list --yes my list.csv new", {"my": header(0), "list.csv": b"".join(l for l, _ in many)}, {}
+    many = [good(k) for k in range(1, 300)]
+    yield "stations_299", 1, "file_list --yes my list.csv new", {"my": header(0), "list.csv": b"".join(l for l, _ in many)}, {}
     yield "a_link_is_kept", 0, "ln -s my link && file_list --yes link list.csv link && test -L link && rm link", some, {}
 
     # Nothing is lost where it cannot be done.

@@ -19,10 +19,10 @@ fn file_space() -> [u8; ROOM]
 }
 
 // Room for the longest report.
-fn report_space() -> [u8; 8192]
-    ensures { λ r. ⌜ 8192 ≡ length r ⌝ }
+fn report_space() -> [u8; 9216]
+    ensures { λ r. ⌜ 9216 ≡ length r ⌝ }
 {
-    [0; 8192]
+    [0; 9216]
 }
 
 // Reads at most that much of the file, and writes all of its report, or says what it could not do.

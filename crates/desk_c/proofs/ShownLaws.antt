@@ -22,7 +22,7 @@ use Rattle.files.proofs.PieceLaws.{shown-length}
 use Rattle.desk_c.specs.Promises.{FieldLocated}
 
 -- a file of which a field can be shown is not too long
-file-length : (file : List ℕ) (k j : ℕ) → done (showOutcome file k j) ≡ true → length file ≤ 54969
+file-length : (file : List ℕ) (k j : ℕ) → done (showOutcome file k j) ≡ true → length file ≤ 65481
 unfolding showOutcome refusal
 file-length file k j t =
     let none = none-applies (fileTests file ++ (numberTest file k ∷ fieldTest k j ∷ [])) refl t in
@@ -32,7 +32,7 @@ file-length file k j t =
 module _ (file : List ℕ) (k j : ℕ) where
   -- A place that was found, of a field that can be shown: it lies inside its record, and the record inside the file.
   pub placed : {p : Place} → p ≡ placeOf (placesOf k) j → done (showOutcome file k j) ≡ true
-      → (1 ≤ p .first) × (p .first + p .length ≤ 220) × (219 * k + 219 ≤ 54969)
+      → (1 ≤ p .first) × (p .first + p .length ≤ 220) × (219 * k + 219 ≤ 65481)
   placed e t =
       let there = shown-there file k j t in
       let short = file-length file k j t in

@@ -13,6 +13,8 @@ use Rattle.header.specs.Calls.{readHeaderOutcome}
 use Rattle.files.specs.Calls.{showOutcome, shownOffset, shownLength}
 use Rattle.sheet.specs.Calls.{judgeOutcome, judgedInto}
 use Rattle.mending.specs.Calls.{replaceOutcome, replacedFile, replacedSheet, replacedRows}
+use Rattle.forms.specs.Forms.{Form}
+use Rattle.turning.specs.Calls.{turnOutcome, turnedInto}
 use Rattle.desk_c.specs.Endings.{Answered, AnsweredLeaving}
 use Rattle.rewriting.specs.Records.{respellOutcome, respelledStation, respellHeaderOutcome, respelledHeader, changeOutcome, changedRecord}
 use Rattle.desk_c.specs.Records.{tenthsStated, heightStated}
@@ -68,6 +70,10 @@ FilingReplaced file sheet k r answer file′ sheet′ rows =
     × (file′ ≡ replacedFile file sheet k r)
     × (sheet′ ≡ replacedSheet file sheet k r)
     × (rows ≡ replacedRows file sheet k r)
+
+-- `desk_turn_forward` and `desk_turn_back` of a list's sheet of one form into a lent one of the other.
+abbrev pub FilingTurned : Form → Form → List ℕ → List ℕ → List ℕ → ℕ → List ℕ → Type 0
+FilingTurned from to file given lent answer after = (answer ≡ refusal (turnOutcome from to file given lent)) × (after ≡ turnedInto from to file given lent)
 
 -- `desk_show` of field j of record k.
 abbrev pub FieldLocated : List ℕ → ℕ → ℕ → ℕ → ℕ → ℕ → Type 0

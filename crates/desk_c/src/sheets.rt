@@ -1,12 +1,16 @@
-// The calls on files and sheets: judging, replacing and showing.
+// The calls on files and sheets: judging, replacing, turning and showing.
 use basics::outcomes::is_done;
 use basics::outcomes::refusal_number;
 use files::showing::field_place;
 use files::showing::show_outcome;
 use mending::replacing::replace;
 use sheet::judging::judge;
+use turning::back::turn_back;
+use turning::forward::turn_forward;
 ghost use Rattle.mending.specs.Promises.{StillJudged};
-ghost use Rattle.desk_c.specs.Promises.{FilingJudged, FilingReplaced, FieldLocated};
+ghost use Rattle.desk_c.specs.Promises.{FilingJudged, FilingReplaced, FilingTurned, FieldLocated};
+ghost use Rattle.forms.specs.OwnForm.{form};
+ghost use Rattle.turning.specs.OldForm.{oldForm};
 
 // Judges a file into the lent sheet: 1, 2, 3, or 0.
 #[no_mangle]
@@ -32,6 +36,22 @@ pub extern "C" fn desk_replace(
     let outcome = replaced.outcome;
     *rows = replaced.rows;
     refusal_number(outcome)
+}
+
+// Turns a list's sheet of the old form into the lent one of ours: 1 to 4, 13, or 0.
+#[no_mangle]
+pub extern "C" fn desk_turn_forward(file: &[u8], given: &[u8], lent: &mut [u8]) -> u8
+    ensures { λ r. ⌜ FilingTurned oldForm form (now (file .entry)) (now (given .entry)) (now (lent .entry)) r (now (lent .exit)) ⌝ }
+{
+    refusal_number(turn_forward(file, given, lent))
+}
+
+// Turns a list's sheet of our form into the lent one of the old form: 1 to 4, 13, or 0.
+#[no_mangle]
+pub extern "C" fn desk_turn_back(file: &[u8], given: &[u8], lent: &mut [u8]) -> u8
+    ensures { λ r. ⌜ FilingTurned form oldForm (now (file .entry)) (now (given .entry)) (now (lent .entry)) r (now (lent .exit)) ⌝ }
+{
+    refusal_number(turn_back(file, given, lent))
 }
 
 // Where a field stands in the file and how long it is: 1, 2, 5, 8, or 0.

@@ -31,17 +31,19 @@ use Rattle.header.specs.Codes.{headerValue, headerCode, filedHeaderCode}
 use Rattle.files.specs.Files.{stations, recordAt, withRecord, tooLong, notRecords, placesOf, fieldAt, fieldCount}
 use Rattle.files.specs.Calls.{showOutcome, shownField}
 use Rattle.stations.specs.Stations.{codeAt, referenceAt}
-use Rattle.forms.specs.Forms.{rowAt, badAt, trailerOf, closed, headAt, fitsForm}
+use Rattle.forms.specs.Forms.{rowAt, badAt, trailerOf, closed, headAt, lowestAt, foundAt, fitsForm}
 use Rattle.sheet.specs.Sheets.{twinAt, rowOf, judgedSheet, sheetOf}
 use Rattle.mending.specs.Replacing.{touched, mendedRow, writes, rowsWritten}
 use Rattle.mending.specs.Replacing as replacing
 use Rattle.mending.specs.Calls.{replaceOutcome, replacedSheet, replacedRows}
+use Rattle.turning.specs.Turning.{turnedRow, turned}
+use Rattle.turning.specs.Calls.{turnOutcome, turnedInto}
 use Rattle.basics.specs.Outcomes.{refusal, codeWith, ifDone, firstRefusal}
 use Rattle.figures.specs.Figures.{FigureHolds}
 use Rattle.figures.specs.Worked.{Worked}
 
 pub worked : Worked
-unfolding FigureHolds among isHex isNarrow isText isName skip trimmed every howMany each byteGood same oneOf leading numberFrom wholeDigits wholeOf unsigned signedOf fractionOf magnitudeOf decimalOf dateRule dateIn dateOf dayGood dayOf tenthsGood tenthsOf amountGood unitGood unitOf frequencyOf radiusOf groundOf heightGood heightOf arcSeconds arcGood arcOf positionGood positionOf bandwidthGood detailGood emissionGood cellGood installationGood remarksGood firstBroken fieldsOf fieldRules roundAntenna betweenRules stationOf valueOf stationCode isMail textGood dateGood serialGood serialOf headerOf headerFields headerRules headerValue headerCode filedHeaderCode stations recordAt withRecord referenceAt codeAt tooLong notRecords placesOf fieldAt fieldCount twinAt rowOf rowAt badAt trailerOf closed judgedSheet sheetOf headAt fitsForm touched mendedRow replacing.mendedSheet writes rowsWritten refusal codeWith ifDone firstRefusal replaceOutcome replacedSheet replacedRows showOutcome shownField frequencyFits dayFits radiusFits groundFits heightFits positionFits tenthsFit typedRules typedCode spellDigits spellMagnitude spellDecimal spellSigned spellDate spellDay spellTenths unitLetter spellAmount spellUnit spellRadius spellGround spellHeight spellArc spellPosition stationPieces spellStation trimmedField paddedField lineOf before behind split lineFields isLine lines.recordOf lineOutcome stationInLine
+unfolding FigureHolds among isHex isNarrow isText isName skip trimmed every howMany each byteGood same oneOf leading numberFrom wholeDigits wholeOf unsigned signedOf fractionOf magnitudeOf decimalOf dateRule dateIn dateOf dayGood dayOf tenthsGood tenthsOf amountGood unitGood unitOf frequencyOf radiusOf groundOf heightGood heightOf arcSeconds arcGood arcOf positionGood positionOf bandwidthGood detailGood emissionGood cellGood installationGood remarksGood firstBroken fieldsOf fieldRules roundAntenna betweenRules stationOf valueOf stationCode isMail textGood dateGood serialGood serialOf headerOf headerFields headerRules headerValue headerCode filedHeaderCode stations recordAt withRecord referenceAt codeAt tooLong notRecords placesOf fieldAt fieldCount twinAt rowOf rowAt badAt trailerOf closed judgedSheet sheetOf headAt fitsForm touched mendedRow replacing.mendedSheet writes rowsWritten refusal codeWith ifDone firstRefusal replaceOutcome replacedSheet replacedRows turnedRow turned turnOutcome turnedInto lowestAt foundAt showOutcome shownField frequencyFits dayFits radiusFits groundFits heightFits positionFits tenthsFit typedRules typedCode spellDigits spellMagnitude spellDecimal spellSigned spellDate spellDay spellTenths unitLetter spellAmount spellUnit spellRadius spellGround spellHeight spellArc spellPosition stationPieces spellStation trimmedField paddedField lineOf before behind split lineFields isLine lines.recordOf lineOutcome stationInLine
 worked = record {
   traps-hold =
       (refl, refl) & (refl, refl) & (refl, refl) & (refl, refl) & (refl, refl) & (refl, refl) & (refl, refl) & (refl, refl) &
@@ -58,6 +60,9 @@ worked = record {
   two-judged = refl;
   two-mended = refl;
   two-rows = refl;
+  two-turned = refl;
+  two-back = refl;
+  two-swapped = refl;
   header-alone = refl;
   wrong-count = refl;
   count-unasked = refl;

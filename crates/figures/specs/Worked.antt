@@ -13,6 +13,9 @@ use Rattle.header.specs.Codes.{headerCode, filedHeaderCode}
 use Rattle.files.specs.Calls.{showOutcome, shownField}
 use Rattle.sheet.specs.Sheets.{sheetOf}
 use Rattle.mending.specs.Calls.{replacedSheet, replacedRows}
+use Rattle.forms.specs.OwnForm.{form}
+use Rattle.turning.specs.OldForm.{oldForm}
+use Rattle.turning.specs.Calls.{turnOutcome, turnedInto}
 use Rattle.basics.specs.Outcomes.{refusal, codeWith}
 use Rattle.figures.specs.Figures.{Figure, figure, minus, AllHold}
 use lib.IntN.{pos}
@@ -28,15 +31,19 @@ two = recordFrom (samples.headerOf "     2") ++ (s ++ s)
 
 -- Its sheet: the second station is the first one's twin.
 abbrev pub twoSheet : List ℕ
-twoSheet = 0x00 ∷ 0x00 ∷ 0x00 ∷ 0x01 ∷ 0x00 ∷ 0x0c ∷ 0x02 ∷ 0x00 ∷ 0x02 ∷ 0x01 ∷ 0x32 ∷ 0x41 ∷ []
+twoSheet = 0x00 ∷ 0x00 ∷ 0x00 ∷ 0x00 ∷ 0x00 ∷ 0x01 ∷ 0x00 ∷ 0x10 ∷ 0x03 ∷ 0x00 ∷ 0x00 ∷ 0x02 ∷ 0x00 ∷ 0x01 ∷ 0x32 ∷ 0x42 ∷ []
+
+-- The same sheet in the old form, as document 01 has it.
+abbrev pub oldTwoSheet : List ℕ
+oldTwoSheet = 0x00 ∷ 0x00 ∷ 0x00 ∷ 0x01 ∷ 0x00 ∷ 0x0c ∷ 0x02 ∷ 0x00 ∷ 0x02 ∷ 0x01 ∷ 0x32 ∷ 0x41 ∷ []
 
 -- The sheet after number 1 got another reference.
 abbrev pub mendedSheet : List ℕ
-mendedSheet = 0x00 ∷ 0x00 ∷ 0x00 ∷ 0x00 ∷ 0x00 ∷ 0x0c ∷ 0x02 ∷ 0x00 ∷ 0x00 ∷ 0x00 ∷ 0x32 ∷ 0x41 ∷ []
+mendedSheet = 0x00 ∷ 0x00 ∷ 0x00 ∷ 0x00 ∷ 0x00 ∷ 0x00 ∷ 0x00 ∷ 0x10 ∷ 0x03 ∷ 0x00 ∷ 0x00 ∷ 0x00 ∷ 0x00 ∷ 0x00 ∷ 0x32 ∷ 0x42 ∷ []
 
 -- The sheet of a header alone.
 abbrev pub aloneSheet : List ℕ
-aloneSheet = 0x00 ∷ 0x08 ∷ 0x02 ∷ 0x00 ∷ 0x00 ∷ 0x00 ∷ 0x32 ∷ 0x41 ∷ []
+aloneSheet = 0x00 ∷ 0x0a ∷ 0x03 ∷ 0x00 ∷ 0x00 ∷ 0x00 ∷ 0x00 ∷ 0x00 ∷ 0x32 ∷ 0x42 ∷ []
 
 -- Station S in the one spelling.
 abbrev pub spelledS : List String
@@ -118,6 +125,10 @@ pub record Worked : Type 0 where
   pub two-judged : sheetOf two ≡ twoSheet
   pub two-mended : replacedSheet two twoSheet 1 (sWith 30 "AUT2311AB01A002") ≡ mendedSheet
   pub two-rows : replacedRows two twoSheet 1 (sWith 30 "AUT2311AB01A002") ≡ 2
+  -- The old sheet turned is the new one, and the new one turned back the old.
+  pub two-turned : turnedInto oldForm form two oldTwoSheet twoSheet ≡ twoSheet
+  pub two-back : turnedInto form oldForm two twoSheet oldTwoSheet ≡ oldTwoSheet
+  pub two-swapped : refusal (turnOutcome oldForm form two twoSheet oldTwoSheet) ≡ 3
   -- A valid header alone, count 0.
   pub header-alone : sheetOf (recordFrom (samples.headerOf "     0")) ≡ aloneSheet
   -- A count that is not n is code 15, in a sheet alone.

@@ -8,9 +8,9 @@ use Rattle.basics.specs.Fields.{recordLength, cut, at}
 use Rattle.station.specs.Places.{stationPlaces}
 use Rattle.header.specs.Places.{headerPlaces}
 
--- A file has at most 250 stations.
+-- A file has at most 298 stations (document 02, wish 4).
 abbrev pub mostStations : ℕ
-mostStations = 250
+mostStations = 298
 
 -- How many stations a file has.
 unfoldable pub stations : List ℕ → ℕ
@@ -41,7 +41,7 @@ fieldAt file k j = at (cut (placesOf k) (recordAt file k)) j
 unfoldable pub fieldCount : ℕ → ℕ
 fieldCount k = length (placesOf k)
 
--- Refusal 1: the file is longer than a header and 250 stations, 54,969 bytes.
+-- Refusal 1: the file is longer than a header and 298 stations, 65,481 bytes.
 unfoldable pub tooLong : List ℕ → Bool
 tooLong file = ltb (recordLength * (mostStations + 1)) (length file)
 

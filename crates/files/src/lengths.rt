@@ -5,7 +5,7 @@ ghost use Rattle.files.specs.Promises.{FileChecked, StationsCounted, Rec
 // The bytes of a record, the most stations of a file, and the most bytes.
 pub const RECORD_LENGTH: usize = 219;
 
-pub const MOST_STATIONS: usize = 250;
+pub const MOST_STATIONS: usize = 298;
 
 pub const MOST_BYTES: usize = RECORD_LENGTH * (MOST_STATIONS + 1);
 

@@ -2,12 +2,12 @@
 use mathlib.Core.Path.{_≡_, refl, sym, _∙_}
 use mathlib.Core.Bool.{Bool, true, false, cond}
 use mathlib.Core.List.{List, [], _∷_, _++_}
-use Prim.Native.Nat.{ℕ, zero, suc, _+_, _-_, _<_}
+use Prim.Native.Nat.{ℕ, zero, suc, _+_, _-_, _≤_, _<_}
 use native.Mathlib.Nat.{le-refl, add-zero, add-suc}
 use native.Mathlib.Numerals.{add-one}
 use native.Mathlib.Omega.{arith}
 use lib.ListN.{length, length-append}
-use Rattle.forms.specs.Counting.{first, count}
+use Rattle.forms.specs.Counting.{orElse, first, count}
 
 -- what was found below stays found
 first-stop : (p : ℕ → Bool) (m d x : ℕ) → first p m ≡ suc x → first p (m + d) ≡ suc x
@@ -44,6 +44,24 @@ module _ (p : ℕ → Bool) (i c : ℕ) (so-far : c ≡ count p i) where
 
   pub count-miss : p (i + 1) ≡ false → c ≡ count p (i + 1)
   count-miss miss = let h : p (suc i) ≡ false = rw add-one at miss in rw (so-far, add-one i, h) (omega arith)
+
+-- Neither is above n.
+pub first-most : (p : ℕ → Bool) (n : ℕ) → first p n ≤ n
+first-most p zero = omega arith
+first-most p (suc n) = by (first p n) (p (suc n)) (first-most p n)
+  where
+    by : (x : ℕ) (b : Bool) → x ≤ n → orElse x (cond b (suc n) 0) ≤ suc n
+    by zero true h = omega arith
+    by zero false h = omega arith
+    by (suc x) b h = omega arith
+
+pub count-most : (p : ℕ → Bool) (n : ℕ) → count p n ≤ n
+count-most p zero = omega arith
+count-most p (suc n) = by (p (suc n)) (count-most p n)
+  where
+    by : (b : Bool) → count p n ≤ n → count p n + cond b 1 0 ≤ suc n
+    by true h = omega arith
+    by false h = omega arith
 
 -- Where none passes the count is 0.
 pub count-none : (p : ℕ → Bool) (n : ℕ) → ((i : ℕ) → p i ≡ false) → count p n ≡ 0

@@ -95,61 +95,51 @@ module _ (f : Form) where
   unfolding trailerOf
   trailer-length n head lowest found m = simp (length-append, length-number, m) (omega arith)
 
-  module _ (n head : ℕ) (standing : List ℕ) (fits : length standing ≡ f .width * n) where
-    abbrev lowest : ℕ
-    lowest = first (badAt f standing) n
-
-    abbrev found : ℕ
-    found = count (badAt f standing) n
-
+  -- Rows with a trailer behind them, whatever it says.
+  module _ (n head lowest found : ℕ) (standing : List ℕ) (fits : length standing ≡ f .width * n) where
     abbrev last-of : List ℕ
     last-of = trailerOf f n head lowest found
 
-    -- behind its rows a sheet has its trailer,
-    pub trailer-back : drop (f .width * n) (closed f n head standing) ≡ last-of
-    unfolding closed
+    abbrev whole : List ℕ
+    whole = standing ++ last-of
+
+    -- behind the rows stands the trailer,
+    trailer-back : drop (f .width * n) whole ≡ last-of
     trailer-back = drop-at standing last-of (f .width * n) fits
 
-    pub rows-back : take (f .width * n) (closed f n head standing) ≡ standing
-    unfolding closed
-    rows-back = take-at standing (trailerOf f n head (first (badAt f standing) n) (count (badAt f standing) n)) (f .width * n) fits
+    pub ended-rows : take (f .width * n) whole ≡ standing
+    ended-rows = take-at standing last-of (f .width * n) fits
 
     -- in which each part stands in its place.
-    pub head-back : headAt f (closed f n head standing) n ≡ head
-    unfolding headAt closed trailerOf
-    head-back =
-        ap (λ (m : ℕ). getD (closed f n head standing) (m + 3) 0) (sym fits)
-        ∙ getD-append-add standing (trailerOf f n head (first (badAt f standing) n) (count (badAt f standing) n)) 3 0
+    pub ended-head : headAt f whole n ≡ head
+    unfolding headAt trailerOf
+    ended-head = ap (λ (m : ℕ). getD whole (m + 3) 0) (sym fits) ∙ getD-append-add standing last-of 3 0
 
-    four-on : drop (f .width * n + 4) (closed f n head standing) ≡ number (f .bytes) lowest ++ (number (f .bytes) found ++ f .mark)
+    four-on : drop (f .width * n + 4) whole ≡ number (f .bytes) lowest ++ (number (f .bytes) found ++ f .mark)
     unfolding trailerOf
-    four-on = sym (drop-drop 4 (f .width * n) (closed f n head standing)) ∙ rw trailer-back
+    four-on = sym (drop-drop 4 (f .width * n) whole) ∙ rw trailer-back
 
-    pub lowest-back : 1 ≤ f .bytes → lowestAt f (closed f n head standing) n ≡ first (badAt f standing) n
+    pub ended-lowest : 1 ≤ f .bytes → lowestAt f whole n ≡ lowest
     unfolding lowestAt
-    lowest-back h = rw (four-on, take-at (number (f .bytes) lowest) (number (f .bytes) found ++ f .mark) (f .bytes) (length-number (f .bytes) lowest)) (number-back (f .bytes) lowest h)
+    ended-lowest h = rw (four-on, take-at (number (f .bytes) lowest) (number (f .bytes) found ++ f .mark) (f .bytes) (length-number (f .bytes) lowest)) (number-back (f .bytes) lowest h)
 
-    pub found-back : 1 ≤ f .bytes → foundAt f (closed f n head standing) n ≡ count (badAt f standing) n
+    pub ended-found : 1 ≤ f .bytes → foundAt f whole n ≡ found
     unfolding foundAt
-    found-back h =
+    ended-found h =
         let place : f .width * n + (4 + f .bytes) ≡ f .width * n + 4 + f .bytes = omega arith in
-        let rest : drop (f .width * n + 4 + f .bytes) (closed f n head standing) ≡ number (f .bytes) found ++ f .mark =
-        sym (drop-drop (f .bytes) (f .width * n + 4) (closed f n head standing)) ∙ rw four-on (drop-at (number (f .bytes) lowest) (number (f .bytes) found ++ f .mark) (f .bytes) (length-number (f .bytes) lowest)) in
+        let rest : drop (f .width * n + 4 + f .bytes) whole ≡ number (f .bytes) found ++ f .mark =
+        sym (drop-drop (f .bytes) (f .width * n + 4) whole) ∙ rw four-on (drop-at (number (f .bytes) lowest) (number (f .bytes) found ++ f .mark) (f .bytes) (length-number (f .bytes) lowest)) in
         rw (place, rest, take-at (number (f .bytes) found) (f .mark) (f .bytes) (length-number (f .bytes) found)) (number-back (f .bytes) found h)
 
-    -- So lowest bad row and number of bad rows are those of the whole sheet.
-    still-bad : (i : ℕ) → i < n → badAt f (closed f n head standing) (suc i) ≡ badAt f standing (suc i)
-    unfolding closed
-    still-bad i h = bad-standing standing last-of i (room i h)
-      where
-        room : (i : ℕ) → i < n → f .width * i + f .width ≤ length standing
-        room i h = rw fits (let m : f .width * suc i ≤ f .width * n = mul-le-mul-left (f .width) h in omega (arith, m, mul-suc (f .width) i))
+    -- The rows are those that stand.
+    room : (i : ℕ) → i < n → f .width * i + f .width ≤ length standing
+    room i h = rw fits (let m : f .width * suc i ≤ f .width * n = mul-le-mul-left (f .width) h in omega (arith, m, mul-suc (f .width) i))
 
-    pub lowest-whole : 1 ≤ f .bytes → lowestAt f (closed f n head standing) n ≡ first (badAt f (closed f n head standing)) n
-    lowest-whole h = lowest-back h ∙ sym (first-cong (badAt f (closed f n head standing)) (badAt f standing) n still-bad)
+    pub ended-row : (i : ℕ) → i < n → rowAt f whole (suc i) ≡ rowAt f standing (suc i)
+    ended-row i h = row-standing standing last-of i (room i h)
 
-    pub found-whole : 1 ≤ f .bytes → foundAt f (closed f n head standing) n ≡ count (badAt f (closed f n head standing)) n
-    found-whole h = found-back h ∙ sym (count-cong (badAt f (closed f n head standing)) (badAt f standing) n still-bad)
+    pub ended-bad : (i : ℕ) → i < n → badAt f whole (suc i) ≡ badAt f standing (suc i)
+    ended-bad i h = bad-standing standing last-of i (room i h)
 
     mark-back : drop (4 + 2 * f .bytes) last-of ≡ f .mark
     unfolding trailerOf
@@ -163,14 +153,56 @@ module _ (f : Form) where
     shape-back = refl
 
     -- It fits its own form,
-    pub fits-back : fitsForm f (closed f n head standing) n ≡ true
+    pub ended-fits : fitsForm f whole n ≡ true
     unfolding fitsForm
-    fits-back = rw (trailer-back, mark-back, same-refl (f .mark), shape-back, same-refl (shape f n))
+    ended-fits = rw (trailer-back, mark-back, same-refl (f .mark), shape-back, same-refl (shape f n))
 
     -- and has its length.
+    pub ended-length : length (f .mark) ≡ 2 → length whole ≡ sheetBytes f n
+    ended-length m = rw (length-append, fits, trailer-length n head lowest found m)
+
+  -- Rows with the trailer that follows from them.
+  module _ (n head : ℕ) (standing : List ℕ) (fits : length standing ≡ f .width * n) where
+    abbrev low : ℕ
+    low = first (badAt f standing) n
+
+    abbrev many : ℕ
+    many = count (badAt f standing) n
+
+    pub rows-back : take (f .width * n) (closed f n head standing) ≡ standing
+    unfolding closed
+    rows-back = ended-rows n head low many standing fits
+
+    pub head-back : headAt f (closed f n head standing) n ≡ head
+    unfolding closed
+    head-back = ended-head n head low many standing fits
+
+    pub lowest-back : 1 ≤ f .bytes → lowestAt f (closed f n head standing) n ≡ first (badAt f standing) n
+    unfolding closed
+    lowest-back h = ended-lowest n head low many standing fits h
+
+    pub found-back : 1 ≤ f .bytes → foundAt f (closed f n head standing) n ≡ count (badAt f standing) n
+    unfolding closed
+    found-back h = ended-found n head low many standing fits h
+
+    -- So lowest bad row and number of bad rows are those of the whole sheet.
+    still-bad : (i : ℕ) → i < n → badAt f (closed f n head standing) (suc i) ≡ badAt f standing (suc i)
+    unfolding closed
+    still-bad i h = ended-bad n head low many standing fits i h
+
+    pub lowest-whole : 1 ≤ f .bytes → lowestAt f (closed f n head standing) n ≡ first (badAt f (closed f n head standing)) n
+    lowest-whole h = lowest-back h ∙ sym (first-cong (badAt f (closed f n head standing)) (badAt f standing) n still-bad)
+
+    pub found-whole : 1 ≤ f .bytes → foundAt f (closed f n head standing) n ≡ count (badAt f (closed f n head standing)) n
+    found-whole h = found-back h ∙ sym (count-cong (badAt f (closed f n head standing)) (badAt f standing) n still-bad)
+
+    pub fits-back : fitsForm f (closed f n head standing) n ≡ true
+    unfolding closed
+    fits-back = ended-fits n head low many standing fits
+
     pub closed-length : length (f .mark) ≡ 2 → length (closed f n head standing) ≡ sheetBytes f n
     unfolding closed
-    closed-length m = rw (length-append, fits, trailer-length n head lowest found m)
+    closed-length m = ended-length n head low many standing fits m
 
   -- The trailer's shape and mark, where they stand.
   pub form-parts : (sheet : List ℕ) (n : ℕ) → fitsForm f sheet n ≡ (same (shape f n) (take 3 (drop (f .width * n) sheet)) && same (f .mark) (drop (f .width * n + (4 + 2 * f .bytes)) sheet))

@@ -1,11 +1,11 @@
 -- What is read of a sheet, whatever its bytes: a row, a number, and what stands behind the rows.
 use mathlib.Core.Path.{_≡_, refl, sym, ap, _∙_}
 use mathlib.Core.List.{List, [], _∷_}
-use Prim.Native.Nat.{ℕ, _+_, _-_, _*_, _/_, _≤_, _<_}
+use Prim.Native.Nat.{ℕ, suc, _+_, _-_, _*_, _/_, _≤_, _<_}
 use native.Mathlib.Nat.{le-refl}
 use native.Mathlib.Omega.{arith}
 use lib.ListN.{length, getD, take, drop, length-drop, drop-of-length-le}
-use lib.Seq.{take-all, drop-drop, getD-drop}
+use lib.Seq.{take-all, drop-drop, drop-cons, getD-drop}
 use Rattle.forms.specs.Forms.{valueFrom, rowAt, headAt, lowestAt, foundAt}
 use Rattle.forms.specs.OwnForm.{numberBytes, rowWidth, rowIn, headIn, lowestIn, foundIn}
 
@@ -27,13 +27,23 @@ module _ (s : List ℕ) (i : ℕ) {rest : List ℕ} (is : rest ≡ drop (rowWidt
   pub row-short : length rest < rowWidth → rest ≡ rowIn s (i + 1)
   row-short h = sym (take-all rowWidth rest (omega arith)) ∙ row-whole
 
--- The number of one byte is that byte.
-pub one-byte : (t : List ℕ) (place : ℕ) → getD t place 0 ≡ valueFrom 0 (take numberBytes (drop place t))
-one-byte t place = ap (λ (p : ℕ). getD t p 0) (omega arith) ∙ sym (getD-drop place t 0 0) ∙ by (drop place t)
-  where
-    by : (u : List ℕ) → getD u 0 0 ≡ valueFrom 0 (take 1 u)
-    by [] = refl
-    by (x ∷ u) = omega arith
+-- The number at a place: nothing past the end, one byte at the end, else two.
+module _ (t : List ℕ) (place : ℕ) where
+  pub number-past : length t ≤ place → 0 ≡ valueFrom 0 (take numberBytes (drop place t))
+  number-past h = rw (drop-of-length-le t h)
+
+  pub number-last : place + 1 ≡ length t → 0 * 256 + getD t place 0 ≡ valueFrom 0 (take numberBytes (drop place t))
+  number-last e =
+      let h : place < length t = omega arith in
+      let l : length t ≤ suc place = omega arith in
+      rw (drop-cons t place 0 h, drop-of-length-le t l) (omega arith)
+
+  pub number-two : place + 1 < length t → getD t place 0 * 256 + getD t (place + 1) 0 ≡ valueFrom 0 (take numberBytes (drop place t))
+  number-two l =
+      let h0 : place < length t = omega arith in
+      let h1 : suc place < length t = omega arith in
+      let e : suc place ≡ place + 1 = omega arith in
+      rw (drop-cons t place 0 h0, drop-cons t (suc place) 0 h1, e) (omega arith)
 
 module _ (s : List ℕ) (n : ℕ) {rest : List ℕ} (is : rest ≡ drop (rowWidth * n) s) where
   -- The trailer's parts, in what stands behind n rows.

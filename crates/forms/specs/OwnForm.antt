@@ -11,10 +11,10 @@ abbrev pub rowNumbers : ℕ
 rowNumbers = 1
 
 abbrev pub numberBytes : ℕ
-numberBytes = 1
+numberBytes = 2
 
 abbrev pub mark : List ℕ
-mark = bytes "2A"
+mark = bytes "2B"
 
 abbrev pub form : Form
 form = record { width = 1 + rowNumbers * numberBytes; bytes = numberBytes; mark = mark }

@@ -1,10 +1,10 @@
 // The form of a sheet: how many bytes a number, a row and the trailer have, and where the trailer's parts stand in it.
 
-pub const NUMBER_BYTES: usize = 1;
+pub const NUMBER_BYTES: usize = 2;
 
 pub const ROW_WIDTH: usize = 1 + NUMBER_BYTES;
 
-pub const WIDTH_BYTE: u8 = 2;
+pub const WIDTH_BYTE: u8 = 3;
 
 pub const TRAILER_LENGTH: usize = 6 + 2 * NUMBER_BYTES;
 

@@ -46,11 +46,25 @@ fn row(sheet: &[u8], i: usize) -> &[u8]
     &rest[0..ROW_WIDTH]
 }
 
-// The number whose bytes start at a place.
-fn number(text: &[u8], place: usize) -> u8
+// Two bytes as a number, high byte first.
+fn joined(high: u8, low: u8) -> u16
+    ensures { λ r. ⌜ r ≡ high * 256 + low ⌝ }
+{
+    high as u16 * 256 + low as u16
+}
+
+// The number whose bytes start at a place, as many of them as there are.
+fn number(text: &[u8], place: usize) -> u16
     ensures { λ r. ⌜ r ≡ valueFrom 0 (take numberBytes (drop place (now (text .entry)))) ⌝ }
 {
-    byte(text, place)
+    if place >= text.len() {
+        return 0;
+    }
+    let next = place + 1;
+    if next == text.len() {
+        return joined(0, text[place]);
+    }
+    joined(text[place], text[next])
 }
 
 // Whether every byte is 0.
@@ -75,7 +89,7 @@ pub fn row_code(sheet: &[u8], i: usize) -> u8
 }
 
 // its twin,
-pub fn row_twin(sheet: &[u8], i: usize) -> u8
+pub fn row_twin(sheet: &[u8], i: usize) -> u16
     ensures { λ r. ⌜ RowTwinRead (now (sheet .entry)) i r ⌝ }
 {
     number(row(sheet, i), 1)
@@ -96,14 +110,14 @@ pub fn head_code(sheet: &[u8], n: usize) -> u8
 }
 
 // the lowest bad row,
-pub fn lowest(sheet: &[u8], n: usize) -> u8
+pub fn lowest(sheet: &[u8], n: usize) -> u16
     ensures { λ r. ⌜ LowestRead (now (sheet .entry)) n r ⌝ }
 {
     number(behind(sheet, n), LOWEST_PLACE)
 }
 
 // and the number of bad rows.
-pub fn found(sheet: &[u8], n: usize) -> u8
+pub fn found(sheet: &[u8], n: usize) -> u16
     ensures { λ r. ⌜ FoundRead (now (sheet .entry)) n r ⌝ }
 {
     number(behind(sheet, n), FOUND_PLACE)

@@ -6,6 +6,7 @@ use crate::telling::tell_reason;
 use basics::outcomes::code_with;
 use basics::outcomes::is_done;
 use basics::outcomes::refusal_number;
+use files::lengths::MOST_STATIONS;
 use gathering::Gathered;
 use gathering::cutting::line_end;
 use gathering::lines::gather;
@@ -93,7 +94,7 @@ fn write(progress: Progress, record: &[u8]) -> Progress
     }
 }
 
-// The end of a line: it is written or refused. A filing has room for 250 records.
+// The end of a line: it is written or refused. A filing has room for so many records.
 fn end_line(line: &[u8; 250], progress: Progress) -> Progress
     ensures { λ r. ⌜ Begun (r .gathered) ⌝ }
 {
@@ -103,7 +104,7 @@ fn end_line(line: &[u8; 250], progress: Progress) -> Progress
     if !is_done(outcome) {
         return refuse(line, progress, refusal_number(outcome), code_with(outcome));
     }
-    if 250 <= progress.records {
+    if MOST_STATIONS as u64 <= progress.records {
         return refuse(line, progress, 1, 0);
     }
     write(progress, &record)

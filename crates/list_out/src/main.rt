@@ -19,10 +19,10 @@ fn file_space() -> [u8; ROOM]
 }
 
 // Room for the longest list.
-fn list_space() -> [u8; 62250]
-    ensures { λ r. ⌜ 62250 ≡ length r ⌝ }
+fn list_space() -> [u8; 74202]
+    ensures { λ r. ⌜ 74202 ≡ length r ⌝ }
 {
-    [0; 62250]
+    [0; 74202]
 }
 
 // Reads at most that much of the file, and writes all of its list, or says what it could not do.

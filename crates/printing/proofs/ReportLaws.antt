@@ -29,7 +29,7 @@ module _ (file : List ℕ) {o : Outcome} {b : Bool} (asked : o ≡ lengthOutcome
   pub taken : not b ≡ false → done (lengthOutcome file) ≡ true
   taken e = ap (λ (o : Outcome). done o) (sym asked) ∙ sym answer ∙ not-false b e
 
--- A file whose length is right has at most 250 stations.
+-- A file whose length is right has at most 298 stations.
 pub few : (file : List ℕ) {n : ℕ} → done (lengthOutcome file) ≡ true → n ≡ stations file → n ≤ mostStations
 few file t e = rw e (whole-records file (length-passed file t) .0)
 

@@ -11,7 +11,7 @@ pub(crate) fn put_refused(out: &mut [u8], start: usize, number: u8) -> usize
     requires { ⌜ start + 12 ≤ length (now out) ⌝ }
     ensures { λ r. ⌜ Appended (now (out .entry)) start (refusedLine number) (now (out .exit)) r ⌝ }
 {
-    let end = put_labelled(out, start, b"refused ", number);
+    let end = put_labelled(out, start, b"refused ", number as u16);
     put_text(out, end, b"\n")
 }
 
@@ -21,24 +21,24 @@ pub(crate) fn put_header(out: &mut [u8], start: usize, code: u8) -> usize
     ensures { λ r. ⌜ Appended (now (out .entry)) start (headerLine code) (now (out .exit)) r ⌝ }
     ensures { λ r. ⌜ r ≤ start + 11 ⌝ }
 {
-    let end = put_labelled(out, start, b"header ", code);
+    let end = put_labelled(out, start, b"header ", code as u16);
     put_text(out, end, b"\n")
 }
 
 // Puts in `station K code C twin T`, and answers where it ends.
-pub(crate) fn put_station(out: &mut [u8], start: usize, k: u8, code: u8, twin: u8) -> usize
+pub(crate) fn put_station(out: &mut [u8], start: usize, k: u16, code: u8, twin: u16) -> usize
     requires { ⌜ start + 30 ≤ length (now out) ⌝ }
     ensures { λ r. ⌜ Appended (now (out .entry)) start (stationLine k code twin) (now (out .exit)) r ⌝ }
     ensures { λ r. ⌜ r ≤ start + 30 ⌝ }
 {
     let number_end = put_labelled(out, start, b"station ", k);
-    let code_end = put_labelled(out, number_end, b" code ", code);
+    let code_end = put_labelled(out, number_end, b" code ", code as u16);
     let twin_end = put_labelled(out, code_end, b" twin ", twin);
     put_text(out, twin_end, b"\n")
 }
 
 // Puts in `stations N bad B`, and answers where it ends.
-pub(crate) fn put_total(out: &mut [u8], start: usize, n: u8, found: u8) -> usize
+pub(crate) fn put_total(out: &mut [u8], start: usize, n: u16, found: u16) -> usize
     requires { ⌜ start + 21 ≤ length (now out) ⌝ }
     ensures { λ r. ⌜ Appended (now (out .entry)) start (totalLine n found) (now (out .exit)) r ⌝ }
 {
@@ -48,12 +48,12 @@ pub(crate) fn put_total(out: &mut [u8], start: usize, n: u8, found: u8) -> usize
 }
 
 // Puts in `station K code C`, and answers where it ends.
-pub(crate) fn put_broken(out: &mut [u8], start: usize, k: u8, code: u8) -> usize
+pub(crate) fn put_broken(out: &mut [u8], start: usize, k: u16, code: u8) -> usize
     requires { ⌜ start + 21 ≤ length (now out) ⌝ }
     ensures { λ r. ⌜ Appended (now (out .entry)) start (brokenLine k code) (now (out .exit)) r ⌝ }
     ensures { λ r. ⌜ r ≤ start + 21 ⌝ }
 {
     let end = put_labelled(out, start, b"station ", k);
-    let code_end = put_labelled(out, end, b" code ", code);
+    let code_end = put_labelled(out, end, b" code ", code as u16);
     put_text(out, code_end, b"\n")
 }

@@ -10,6 +10,7 @@ use files::lengths::stations_in;
 use lists::records::record_to_line;
 ghost use Prim.Native.Nat.{_+_, _*_, _≤_};
 ghost use lib.ListN.{length};
+ghost use Rattle.files.specs.Files.{mostStations};
 ghost use Rattle.forms.specs.Counting.{rows};
 ghost use Rattle.printing.specs.Lists.{entryOf};
 ghost use Rattle.printing.specs.Promises.{Appended, ListWritten};
@@ -17,7 +18,7 @@ ghost use Rattle.printing.specs.Promises.{Appended, ListWritten};
 // Puts in the line of station i + 1, or its number and code where it breaks a rule, and answers where it ends.
 fn put_entry(out: &mut [u8], start: usize, file: &[u8], i: usize) -> usize
     requires { ⌜ start + 249 ≤ length (now out) ⌝ }
-    requires { ⌜ (i + 1 ≤ 250) × (219 * (i + 1) + 219 ≤ length (now file)) ⌝ }
+    requires { ⌜ (i + 1 ≤ mostStations) × (219 * (i + 1) + 219 ≤ length (now file)) ⌝ }
     ensures { λ r. ⌜ Appended (now (out .entry)) start (entryOf (now (file .entry)) (i + 1)) (now (out .exit)) r ⌝ }
     ensures { λ r. ⌜ r ≤ start + 249 ⌝ }
 {
@@ -26,14 +27,14 @@ fn put_entry(out: &mut [u8], start: usize, file: &[u8], i: usize) -> usize
     let outcome = written.outcome;
     let code = code_with(outcome);
     if code > 0 {
-        return put_broken(out, start, k as u8, code);
+        return put_broken(out, start, k as u16, code);
     }
     start + written.length
 }
 
 // Puts in what the list has for each of n stations, and answers where it ends.
 fn put_entries(out: &mut [u8], file: &[u8], n: usize) -> usize
-    requires { ⌜ (n ≤ 250) × (219 * n + 219 ≤ length (now file)) × (249 * n ≤ length (now out)) ⌝ }
+    requires { ⌜ (n ≤ mostStations) × (219 * n + 219 ≤ length (now file)) × (249 * n ≤ length (now out)) ⌝ }
     ensures { λ r. ⌜ Appended (now (out .entry)) 0 (rows (entryOf (now (file .entry))) n) (now (out .exit)) r ⌝ }
 {
     let mut end = 0;
@@ -46,7 +47,7 @@ fn put_entries(out: &mut [u8], file: &[u8], n: usize) -> usize
 }
 
 // Writes the list of a file into the lent bytes, and answers its length; the bytes behind it are kept.
-pub fn write_list(file: &[u8], out: &mut [u8; 62250]) -> usize
+pub fn write_list(file: &[u8], out: &mut [u8; 74202]) -> usize
     ensures { λ r. ⌜ ListWritten (now (file .entry)) (now (out .entry)) r (now (out .exit)) ⌝ }
 {
     let outcome = check_file(file);

@@ -19,7 +19,7 @@ pub(crate) fn put_text(out: &mut [u8], start: usize, text: &[u8]) -> usize
 }
 
 // How many digits a number has.
-fn places(v: u8) -> usize
+fn places(v: u16) -> usize
     ensures { λ r. ⌜ r ≡ Lines·places v ⌝ }
     ensures { λ r. ⌜ r ≤ 3 ⌝ }
 {
@@ -33,7 +33,7 @@ fn places(v: u8) -> usize
 }
 
 // Puts in a number in plain decimal, and answers where it ends.
-fn put_number(out: &mut [u8], start: usize, v: u8) -> usize
+fn put_number(out: &mut [u8], start: usize, v: u16) -> usize
     requires { ⌜ start + 3 ≤ length (now out) ⌝ }
     ensures { λ r. ⌜ Appended (now (out .entry)) start (decimal v) (now (out .exit)) r ⌝ }
     ensures { λ r. ⌜ r ≤ start + 3 ⌝ }
@@ -44,7 +44,7 @@ fn put_number(out: &mut [u8], start: usize, v: u8) -> usize
 }
 
 // Puts in a number and the words before it, and answers where it ends.
-pub(crate) fn put_labelled(out: &mut [u8], start: usize, label: &[u8], v: u8) -> usize
+pub(crate) fn put_labelled(out: &mut [u8], start: usize, label: &[u8], v: u16) -> usize
     requires { ⌜ start + (length (now label) + 3) ≤ length (now out) ⌝ }
     ensures { λ r. ⌜ Appended (now (out .entry)) start (now (label .entry) ++ decimal v) (now (out .exit)) r ⌝ }
     ensures { λ r. ⌜ r ≤ start + (length (now (label .entry)) + 3) ⌝ }

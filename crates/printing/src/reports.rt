@@ -42,7 +42,7 @@ fn put_row(out: &mut [u8], start: usize, sheet: &[u8], i: usize) -> usize
     let code = row_code(sheet, i);
     let twin = row_twin(sheet, i);
     let k = i + 1;
-    put_station(out, start, k as u8, code, twin)
+    put_station(out, start, k as u16, code, twin)
 }
 
 // Puts in the lines of all bad rows of n, and answers where they end.
@@ -63,17 +63,17 @@ fn put_rows(out: &mut [u8], start: usize, sheet: &[u8], n: usize) -> usize
 
 // Puts in the lines of a sheet of n rows, and answers where they end.
 fn put_sheet(out: &mut [u8], sheet: &[u8], n: usize) -> usize
-    requires { ⌜ (n ≤ mostStations) × (length (now sheet) ≡ sheetLength n) × (8192 ≤ length (now out)) ⌝ }
+    requires { ⌜ (n ≤ mostStations) × (length (now sheet) ≡ sheetLength n) × (9216 ≤ length (now out)) ⌝ }
     ensures { λ r. ⌜ Appended (now (out .entry)) 0 (sheetLines (now (sheet .entry)) n (foundIn (now (sheet .entry)) n)) (now (out .exit)) r ⌝ }
 {
     let header_end = put_header(out, 0, head_code(sheet, n));
     let rows_end = put_rows(out, header_end, sheet, n);
-    put_total(out, rows_end, n as u8, found(sheet, n))
+    put_total(out, rows_end, n as u16, found(sheet, n))
 }
 
 // Judges a file of n stations into a sheet, puts in the sheet's lines, and answers where they end.
 fn put_judged(out: &mut [u8], file: &[u8], sheet: &mut [u8], n: usize) -> usize
-    requires { ⌜ (n ≡ stations (now file)) × (length (now sheet) ≡ sheetLength n) × (8192 ≤ length (now out)) ⌝ }
+    requires { ⌜ (n ≡ stations (now file)) × (length (now sheet) ≡ sheetLength n) × (9216 ≤ length (now out)) ⌝ }
     requires { ⌜ eqb (refusal (lengthOutcome (now file))) 0 ≡ true ⌝ }
     ensures { λ r. ⌜ Appended (now (out .entry)) 0 (sheetReport (sheetOf (now (file .entry))) n) (now (out .exit)) r ⌝ }
 {
@@ -90,7 +90,7 @@ fn sheet_space() -> [u8; LONGEST_SHEET]
 
 // Puts in the lines of a file whose length is right, and answers where they end.
 fn put_file(out: &mut [u8], file: &[u8]) -> usize
-    requires { ⌜ 8192 ≤ length (now out) ⌝ }
+    requires { ⌜ 9216 ≤ length (now out) ⌝ }
     requires { ⌜ eqb (refusal (lengthOutcome (now file))) 0 ≡ true ⌝ }
     ensures { λ r. ⌜ Appended (now (out .entry)) 0 (sheetReport (sheetOf (now (file .entry))) (stations (now (file .entry)))) (now (out .exit)) r ⌝ }
 {
@@ -101,7 +101,7 @@ fn put_file(out: &mut [u8], file: &[u8]) -> usize
 }
 
 // Writes the report of a file into the lent bytes, and answers its length; the bytes behind it are kept.
-pub fn write_report(file: &[u8], out: &mut [u8; 8192]) -> usize
+pub fn write_report(file: &[u8], out: &mut [u8; 9216]) -> usize
     ensures { λ r. ⌜ ReportWritten (now (file .entry)) (now (out .entry)) r (now (out .exit)) ⌝ }
 {
     let outcome = check_file(file);

@@ -3,13 +3,21 @@ use crate::twins::twin;
 use forms::form::ROW_WIDTH;
 use stations::code;
 ghost use mathlib.Core.Path.{_≡_};
-ghost use mathlib.Core.List.{_++_};
+ghost use mathlib.Core.List.{_++_, _∷_, []};
 ghost use Prim.Native.Nat.{_+_, _*_, _≤_};
 ghost use lib.ListN.{length, take, drop};
 ghost use Rattle.basics.specs.Fields.{recordLength};
 ghost use Rattle.files.specs.Files.{mostStations};
-ghost use Rattle.forms.specs.OwnForm.{rowWidth};
+ghost use Rattle.forms.specs.Forms.{rowBytes};
+ghost use Rattle.forms.specs.OwnForm.{form, rowWidth};
 ghost use Rattle.sheet.specs.Sheets.{rowOf};
+
+// A row's bytes: its code and its number, high byte first.
+pub fn row_bytes(code: u8, number: u16) -> [u8; ROW_WIDTH]
+    ensures { λ r. ⌜ r ≡ rowBytes form code (number ∷ []) ⌝ }
+{
+    [code, (number / 256) as u8, (number % 256) as u8]
+}
 
 // Writes station k's row into the bytes that it is lent.
 fn put_bytes(row: &mut [u8], file: &[u8], k: usize)
@@ -18,7 +26,7 @@ fn put_bytes(row: &mut [u8], file: &[u8], k: usize)
     requires { ⌜ (1 ≤ k) × (k ≤ mostStations) ⌝ }
     ensures { λ _. ⌜ now (row .exit) ≡ rowOf (now (file .entry)) k ⌝ }
 {
-    let held = [code(file, k), twin(file, k)];
+    let held = row_bytes(code(file, k), twin(file, k));
     bytes::copy(&held, row);
 }
 

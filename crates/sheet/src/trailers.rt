@@ -7,14 +7,17 @@ use forms::form::TRAILER_LENGTH;
 use forms::form::WIDTH_BYTE;
 use forms::readers::is_bad;
 ghost use mathlib.Core.Path.{_≡_};
+ghost use mathlib.Core.Bool.{_&&_};
 ghost use Prim.Native.Nat.{_+_, _*_, _≤_};
-ghost use lib.ListN.{length, take};
+ghost use lib.ListN.{length, take, drop};
+ghost use Rattle.columns.specs.Texts.{same};
 ghost use Rattle.forms.specs.Counting.{first, count};
-ghost use Rattle.forms.specs.OwnForm.{bad, withTrailer, trailerFits, rowWidth, sheetLength};
+ghost use Rattle.forms.specs.Forms.{trailerOf};
+ghost use Rattle.forms.specs.OwnForm.{form, bad, withTrailer, trailerFits, rowWidth, sheetLength};
 ghost use Rattle.files.specs.Files.{mostStations};
 
 // The lowest of n rows that is bad, or 0.
-fn lowest_bad(sheet: &[u8], n: usize) -> u8
+fn lowest_bad(sheet: &[u8], n: usize) -> u16
     requires { ⌜ (n ≤ mostStations) × (rowWidth * n ≤ length (now sheet)) ⌝ }
     ensures { λ r. ⌜ r ≡ first (bad (now (sheet .entry))) n ⌝ }
 {
@@ -22,7 +25,7 @@ fn lowest_bad(sheet: &[u8], n: usize) -> u8
     while i < n {
         let k = i + 1;
         if is_bad(sheet, i) {
-            return k as u8;
+            return k as u16;
         }
         i = k;
     }
@@ -30,11 +33,11 @@ fn lowest_bad(sheet: &[u8], n: usize) -> u8
 }
 
 // How many of n rows are bad.
-fn bad_rows(sheet: &[u8], n: usize) -> u8
+fn bad_rows(sheet: &[u8], n: usize) -> u16
     requires { ⌜ (n ≤ mostStations) × (rowWidth * n ≤ length (now sheet)) ⌝ }
     ensures { λ r. ⌜ r ≡ count (bad (now (sheet .entry))) n ⌝ }
 {
-    let mut found: u8 = 0;
+    let mut found: u16 = 0;
     let mut i = 0;
     while i < n {
         if is_bad(sheet, i) {
@@ -45,26 +48,48 @@ fn bad_rows(sheet: &[u8], n: usize) -> u8
     found
 }
 
+// The trailer of n rows: distance, width, the header's code, the lowest bad row, the number of bad rows, and the mark.
+pub fn trailer_bytes(n: usize, head: u8, lowest: u16, found: u16) -> [u8; TRAILER_LENGTH]
+    requires { ⌜ n ≤ mostStations ⌝ }
+    ensures { λ r. ⌜ r ≡ trailerOf form n head lowest found ⌝ }
+{
+    let distance = ROW_WIDTH * n + TRAILER_LENGTH;
+    [
+        (distance / 256) as u8,
+        (distance % 256) as u8,
+        WIDTH_BYTE,
+        head,
+        (lowest / 256) as u8,
+        (lowest % 256) as u8,
+        (found / 256) as u8,
+        (found % 256) as u8,
+        b'2',
+        b'B',
+    ]
+}
+
 // Writes the trailer of the n rows that stand, with the header's code, behind them.
 pub fn put_trailer(sheet: &mut [u8], n: usize, head: u8)
     requires { ⌜ (n ≤ mostStations) × (length (now sheet) ≡ sheetLength n) ⌝ }
     ensures { λ _. ⌜ now (sheet .exit) ≡ withTrailer n head (take (rowWidth * n) (now (sheet .entry))) ⌝ }
 {
     let end = ROW_WIDTH * n;
-    let distance = end + TRAILER_LENGTH;
     let lowest = lowest_bad(&sheet[..end], n);
     let found = bad_rows(&sheet[..end], n);
-    let trailer = [
-        (distance / 256) as u8,
-        (distance % 256) as u8,
-        WIDTH_BYTE,
-        head,
-        lowest,
-        found,
-        b'2',
-        b'A',
-    ];
+    let trailer = trailer_bytes(n, head, lowest, found);
     bytes::copy(&trailer, &mut sheet[end..]);
+}
+
+// Whether the distance and width that stand at a place, and the mark that ends the sheet, are these.
+pub fn fits_shape(sheet: &[u8], start: usize, shape: &[u8], end: usize, mark: &[u8]) -> bool
+    requires { ⌜ (start + 3 ≤ length (now sheet)) × (end ≤ length (now sheet)) ⌝ }
+    ensures { λ r. ⌜ r ≡ (same (now (shape .entry)) (take 3 (drop start (now (sheet .entry)))) && same (now (mark .entry)) (drop end (now (sheet .entry)))) ⌝ }
+{
+    let code = start + HEAD_PLACE;
+    if !equal(shape, &sheet[start..code]) {
+        return false;
+    }
+    equal(mark, &sheet[end..])
 }
 
 // Whether the trailer has the distance, the width and the mark of a sheet of n rows.
@@ -75,10 +100,5 @@ pub fn fits_trailer(sheet: &[u8], n: usize) -> bool
     let end = ROW_WIDTH * n;
     let distance = end + TRAILER_LENGTH;
     let shape = [(distance / 256) as u8, (distance % 256) as u8, WIDTH_BYTE];
-    let mark = end + MARK_PLACE;
-    let code = end + HEAD_PLACE;
-    if !equal(&shape, &sheet[end..code]) {
-        return false;
-    }
-    equal(b"2A", &sheet[mark..])
+    fits_shape(sheet, end, &shape, end + MARK_PLACE, b"2B")
 }

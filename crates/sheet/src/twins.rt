@@ -9,7 +9,7 @@ ghost use Rattle.files.specs.Files.{mostStations};
 ghost use Rattle.sheet.specs.Sheets.{twinAt};
 
 // Station k's twin: the lowest station before it that bears its 13X, or 0.
-pub(crate) fn twin(file: &[u8], k: usize) -> u8
+pub(crate) fn twin(file: &[u8], k: usize) -> u16
     requires { ⌜ recordLength * k + recordLength ≤ length (now file) ⌝ }
     requires { ⌜ (1 ≤ k) × (k ≤ mostStations) ⌝ }
     ensures { λ r. ⌜ r ≡ twinAt (now (file .entry)) k ⌝ }
@@ -19,7 +19,7 @@ pub(crate) fn twin(file: &[u8], k: usize) -> u8
     while i + 1 < k {
         let j = i + 1;
         if equal(reference(file, j), mine) {
-            return j as u8;
+            return j as u16;
         }
         i = j;
     }

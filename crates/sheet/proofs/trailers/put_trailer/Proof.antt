@@ -1,6 +1,6 @@
 -- `sheet::trailers::put_trailer` meets its contract: its bytes copied behind the rows that they tell of.
 use denote.Ref.{now}
-use mathlib.Core.Path.{_≡_, sym, _∙_}
+use mathlib.Core.Path.{_≡_, sym, ap, _∙_}
 use Prim.Native.Nat.{_-_, _*_}
 use native.Mathlib.Nat.{le-of-eq}
 use lib.ListN.{length}
@@ -9,16 +9,13 @@ use borrow.Rule.Slice.PartMut.{mid-len, midOf}
 use Rattle.forms.specs.Forms.{trailerOf, closed}
 use Rattle.forms.proofs.CopyLaws.{copy-all, back-from}
 use native.Mathlib.Omega.{arith}
-use Rattle.forms.specs.OwnForm.{form, rowWidth, trailerLength}
+use Rattle.forms.specs.OwnForm.{rowWidth, trailerLength}
 use borrow.Author.Needs.{needs}
 use Rattle.sheet.proofs.trailers.put_trailer.Statement.{statement}
 use Rattle.sheet.proofs.trailers.put_trailer.Tie as tie
 
 mul-end : tie.Need-mul-end
 mul-end c = search needs
-
-add-distance : tie.Need-add-distance
-add-distance c = search needs
 
 slice-reshare-prefix-lowest-bad : tie.Need-slice-reshare-prefix-lowest-bad
 slice-reshare-prefix-lowest-bad c = search needs
@@ -38,11 +35,8 @@ slice-aggregate-bad-rows c = let a = c .before .before .before .before .args in 
 bad-rows-requires : tie.Need-bad-rows-requires
 bad-rows-requires c κs = let a = c .before .before .before .before .args in (search needs, le-of-eq (sym (length-take-le (rowWidth * a .n) (now (a .sheet)) (omega arith))))
 
-cast-t14 : tie.Need-cast-t14
-cast-t14 c = search needs
-
-cast-t16 : tie.Need-cast-t16
-cast-t16 c = search needs
+trailer-bytes-requires : tie.Need-trailer-bytes-requires
+trailer-bytes-requires c κs = search needs
 
 slice-aggregate-copy : tie.Need-slice-aggregate-copy
 slice-aggregate-copy c = search needs
@@ -65,30 +59,30 @@ same-length c = search needs
 returns : tie.Need-returns
 unfolding closed trailerOf
 returns c =
-    let a = c .before .before .before .before .before .before .before .before .before .before .args in
+    let a = c .before .before .before .before .before .before .before .before .before .before .before .args in
     let s = now (a .sheet) in
     let n = a .n in
-    let lowest = c .before .before .before .before .before .before .before .lowest-bad in
-    let found = c .before .before .before .before .before .bad-rows in
-    let l : length (midOf (rowWidth * n) (length s - rowWidth * n) s) ≡ trailerLength = mid-len (rowWidth * n) (length s) s (search needs) ∙ (omega arith) in
-    let t = trailerOf form n (a .head) (lowest .result) (found .result) in
+    let lowest = c .before .before .before .before .before .before .before .before .lowest-bad in
+    let found = c .before .before .before .before .before .before .bad-rows in
+    let held = c .before .before .before .before .before .trailer-bytes in
+    let t = held .result in
+    let size : length t ≡ trailerLength = ap length (held .ensures) in
+    let l : length (midOf (rowWidth * n) (length s - rowWidth * n) s) ≡ length t = mid-len (rowWidth * n) (length s) s (search needs) ∙ (omega arith) in
     let f : c .before .before .copy .last .1 .0 ≡ t = c .before .before .copy .ensures .1 ∙ copy-all t (midOf (rowWidth * n) (length s - rowWidth * n) s) l in
-    rw f (back-from s t (rowWidth * n) ∙ rw (lowest .ensures, found .ensures))
+    rw f (back-from s t (rowWidth * n) ∙ rw (held .ensures, lowest .ensures, found .ensures))
 
 pub put-trailer-spec : {M : Type 1} → statement M
 put-trailer-spec =
     tie.close
     (tie.spec
     mul-end
-    add-distance
     slice-reshare-prefix-lowest-bad
     slice-aggregate-lowest-bad
     lowest-bad-requires
     slice-reshare-prefix-bad-rows
     slice-aggregate-bad-rows
     bad-rows-requires
-    cast-t14
-    cast-t16
+    trailer-bytes-requires
     slice-aggregate-copy
     sub-copy
     part-copy-start

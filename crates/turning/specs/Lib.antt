@@ -1,0 +1,4 @@
+pub mod OldForm
+pub mod Turning
+pub mod Calls
+pub mod Promises
