@@ -14,11 +14,11 @@
 static uint8_t file[DESK_MAX_FILE_LENGTH + 1];
 static uint8_t sheet[DESK_SHEET_LENGTH(DESK_MAX_STATIONS)];
 
-/* Prints the sheet's bytes. */
-static void print_sheet(size_t length)
+/* Prints the bytes of a sheet. */
+static void print_bytes(const uint8_t *bytes, size_t length)
 {
     for (size_t i = 0; i < length; i++)
-        printf("%02X%c", sheet[i], i + 1 < length ? ' ' : '\n');
+        printf("%02X%c", bytes[i], i + 1 < length ? ' ' : '\n');
 }
 
 int main(int count, char **words)
@@ -31,7 +31,7 @@ int main(int count, char **words)
     size_t length = fread(file, 1, sizeof file, input);
     fclose(input);
 
-    /* A sheet has two bytes for each station and eight more. */
+    /* A sheet has three bytes for each station and ten more. */
     size_t stations = length / DESK_RECORD_LENGTH > 0 ? length / DESK_RECORD_LENGTH - 1 : 0;
     size_t sheet_length = DESK_SHEET_LENGTH(stations);
     if (sheet_length > sizeof sheet)
@@ -41,7 +41,14 @@ int main(int count, char **words)
         printf("refused %u\n", refusal);
         return 1;
     }
-    print_sheet(sheet_length);
+    print_bytes(sheet, sheet_length);
+
+    /* The same sheet for a box that knows the old form. */
+    static uint8_t old_sheet[DESK_OLD_SHEET_LENGTH(DESK_MAX_STATIONS)];
+    size_t old_length = DESK_OLD_SHEET_LENGTH(stations);
+    refusal = desk_turn_back(file, length, sheet, sheet_length, old_sheet, old_length);
+    printf("refused %u, ", refusal);
+    print_bytes(old_sheet, old_length);
 
     /* Field 30 of station 1 is its reference, 13X. */
     size_t offset, field_length;
@@ -56,7 +63,7 @@ int main(int count, char **words)
     size_t rows;
     refusal = desk_replace(file, length, sheet, sheet_length, 1, record, sizeof record, &rows);
     printf("refused %u, rows %zu\n", refusal, rows);
-    print_sheet(sheet_length);
+    print_bytes(sheet, sheet_length);
 
     /* An azimuth of 360.0 breaks rule 17, and the record keeps its bytes. */
     uint8_t code;

@@ -1,10 +1,11 @@
 /*
  * desk.h - filing files: read, judged, replaced, shown, set and listed.
  *
- * A filing file is one header and n stations, 0 <= n <= 250, each a record of 219 bytes, with
- * nothing between them. Its sheet has 2n + 8 bytes: for each station its code and its twin, then
- * the trailer: distance from the sheet's end back to its first row (two bytes, high first),
- * width 2, header code, lowest bad row or 0, number of bad rows, "2A".
+ * A filing file is one header and n stations, 0 <= n <= 298, each a record of 219 bytes, with
+ * nothing between them. Its sheet has 3n + 10 bytes: for each station its code and its twin (two
+ * bytes), then the trailer: distance from the sheet's end back to its first row (two bytes),
+ * width 3, header code, lowest bad row or 0 (two bytes), number of bad rows (two bytes), "2B".
+ * Numbers of two bytes have the high one first.
  *
  * Every function but desk_rules returns the number of its refusal, DESK_DONE (0) if there is
  * none. Where more than one refusal applies the lowest number is given, unless the function says
@@ -27,9 +28,13 @@ extern "C" {
 
 /* Lengths in bytes, and the most stations that a file holds. */
 #define DESK_RECORD_LENGTH 219u
-#define DESK_MAX_STATIONS 250u
-#define DESK_MAX_FILE_LENGTH 54969u
-#define DESK_SHEET_LENGTH(stations) (2u * (stations) + 8u)
+#define DESK_MAX_STATIONS 298u
+#define DESK_MAX_FILE_LENGTH 65481u
+#define DESK_SHEET_LENGTH(stations) (3u * (stations) + 10u)
+
+/* The same of the old form, which desk_turn_forward and desk_turn_back know. */
+#define DESK_OLD_MAX_STATIONS 250u
+#define DESK_OLD_SHEET_LENGTH(stations) (2u * (stations) + 8u)
 
 /* The longest line that is written: 219 columns, 29 semicolons and the line feed. */
 #define DESK_MAX_LINE_LENGTH 249u
@@ -37,10 +42,10 @@ extern "C" {
 /* The numbers of the refusals. */
 enum desk_refusal {
     DESK_DONE = 0,                       /* not refused */
-    DESK_REFUSED_FILE_TOO_LONG = 1,      /* the file is longer than 54,969 bytes */
+    DESK_REFUSED_FILE_TOO_LONG = 1,      /* the file is longer than 65,481 bytes */
     DESK_REFUSED_FILE_NOT_RECORDS = 2,   /* the file's length is zero or no multiple of 219 */
-    DESK_REFUSED_SHEET_LENGTH = 3,       /* the lent sheet is not exactly 2n + 8 bytes */
-    DESK_REFUSED_SHEET_TRAILER = 4,      /* the trailer lacks "2A", width 2 or distance 2n + 8 */
+    DESK_REFUSED_SHEET_LENGTH = 3,       /* the lent sheet is not exactly 3n + 10 bytes */
+    DESK_REFUSED_SHEET_TRAILER = 4,      /* the trailer lacks "2B", width 3 or distance 3n + 10 */
     DESK_REFUSED_NO_SUCH_RECORD = 5,     /* the record number is above n (0 is the header) */
     DESK_REFUSED_RECORD_LENGTH = 6,      /* the record offered is not 219 bytes */
     DESK_REFUSED_BUFFER_LENGTH = 7,      /* the buffer to write into is not 219 bytes */
@@ -48,7 +53,8 @@ enum desk_refusal {
     DESK_REFUSED_RULE_BROKEN = 9,        /* a record or value breaks a rule; its code comes too */
     DESK_REFUSED_NOT_A_LINE = 10,        /* not 29 semicolons and one line feed, the last byte */
     DESK_REFUSED_FIELD_TOO_LONG = 11,    /* a field of the line is longer than its columns */
-    DESK_REFUSED_BUFFER_TOO_SHORT = 12   /* the lent buffer is shorter than the line */
+    DESK_REFUSED_BUFFER_TOO_SHORT = 12,  /* the lent buffer is shorter than the line */
+    DESK_REFUSED_OLD_FORM_TOO_MANY = 13  /* an old form's sheet of more than 250 stations */
 };
 
 /*
@@ -70,6 +76,27 @@ uint8_t desk_replace(uint8_t *file, size_t file_length,
                      size_t number,
                      const uint8_t *record, size_t record_length,
                      size_t *rows);
+
+/*
+ * Sheets of the old form have 2n + 8 bytes: a twin, a lowest bad row and a number of bad rows of one
+ * byte each, width 2, and "2A" as their last two bytes, by which they are known. Both calls take
+ * the list, a sheet of it as `given` and one of the other form as `lent`. Codes, twins, header
+ * code, lowest bad row and number of bad rows are carried over as they are said, so that a sheet
+ * that is right for the list stays right.
+ * Refusals, in this order: 1, 2, 3 (either sheet, by its own form), 4 (`given`, by its own form),
+ * 13.
+ */
+
+/* Turns a sheet of the old form, `given`, into one of DESK_SHEET_LENGTH bytes. */
+uint8_t desk_turn_forward(const uint8_t *file, size_t file_length,
+                          const uint8_t *given, size_t given_length,
+                          uint8_t *lent, size_t lent_length);
+
+/* Turns a sheet into one of the old form, of DESK_OLD_SHEET_LENGTH bytes; of numbers the low byte
+ * is carried. */
+uint8_t desk_turn_back(const uint8_t *file, size_t file_length,
+                       const uint8_t *given, size_t given_length,
+                       uint8_t *lent, size_t lent_length);
 
 /*
  * Finds field `field` of record `number`, 0 being the header, in the file: its first byte stands
@@ -186,8 +213,8 @@ uint8_t desk_long_field(const uint8_t *line, size_t line_length,
  * The number of the rules that records are judged by: 1 for those of document 01, 2 since dates
  * have to be days of the calendar. It is counted up by each change of a rule, and a sheet does not
  * say by which rules it was judged: keep this number beside each sheet that you store, and judge
- * the file again with desk_judge where the number kept is another or there is none. This call
- * has no refusal.
+ * the file again with desk_judge where the number kept is another or there is none. Turning a sheet
+ * changes no rule: the number kept beside it stays. This call has no refusal.
  */
 uint32_t desk_rules(void);
 

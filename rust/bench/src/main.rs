@@ -12,7 +12,7 @@ use peer::{lists, sheet_length, Record, Station};
 use timing::{compare, Times};
 
 /// The sizes of file at which growth is measured.
-const SIZES: [usize; 3] = [10, 50, 250];
+const SIZES: [usize; 3] = [10, 50, 298];
 
 /// What the output says before its table.
 const STATE: &str = "\
@@ -43,9 +43,9 @@ fn main() {
     let [small, _, full] = &sizes;
     row("station code, stations that hold", station_code(&samples::stations()));
     row("station code, one field broken", station_code(&samples::broken_stations()));
-    row("judge, n = 250", full.judge);
-    row("replace that writes one row, n = 250", full.replace_one);
-    row("replace that writes 250 rows, n = 250", full.replace_all);
+    row("judge, n = 298", full.judge);
+    row("replace that writes one row, n = 298", full.replace_one);
+    row("replace that writes 298 rows, n = 298", full.replace_all);
     row("respell a station", respell());
     row("list a station (record to line)", list_out());
     row("file a line (line to record)", list_in());
@@ -60,13 +60,13 @@ fn main() {
         grown(&format!("replace, n rows, n = {n}"), *replace_all, small.replace_all);
     }
     println!("13X that share their last six bytes");
-    for n in [50, 250] {
+    for n in [50, 298] {
         row(&format!("  judge, n = {n}"), judge(n, samples::far_reference));
         row(&format!("  replace, one row, n = {n}"), replace_one(n, samples::far_reference));
     }
-    println!("judge : replace at n = 250, verified alone");
+    println!("judge : replace at n = 298, verified alone");
     println!("  one row written {:30.1}", full.judge.verified / full.replace_one.verified);
-    println!("  250 rows written {:29.1}", full.judge.verified / full.replace_all.verified);
+    println!("  298 rows written {:29.1}", full.judge.verified / full.replace_all.verified);
 }
 
 fn measured(n: usize) -> Size {

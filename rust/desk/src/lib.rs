@@ -1,7 +1,7 @@
 //! A safe wrapper over the desk library, whose C boundary `include/desk.h` describes.
 //!
-//! A filing file is one header and n stations, 0 ≤ n ≤ 250, each a record of 219 bytes. Judging
-//! fills a sheet of 2n + 8 bytes; replacing puts a record in and mends the sheet; showing finds a
+//! A filing file is one header and n stations, 0 ≤ n ≤ 298, each a record of 219 bytes. Judging
+//! fills a sheet of 3n + 10 bytes; replacing puts a record in and mends the sheet; showing finds a
 //! field; setting changes one value of a station; listing turns a station's record into a line of
 //! a semicolon list, or such a line into a record. A refused call changes no lent byte.
 //!
@@ -10,7 +10,7 @@
 //! let file = [b' '; 2 * desk::RECORD_LENGTH];
 //! let mut sheet = [0; desk::sheet_length(1)];
 //! desk::judge(&file, &mut sheet)?;
-//! assert_eq!(sheet, [3, 0, 0, 10, 2, 1, 1, 1, b'2', b'A']);
+//! assert_eq!(sheet, [3, 0, 0, 0, 13, 3, 1, 0, 1, 0, 1, b'2', b'B']);
 //! # Ok::<(), desk::Refusal>(())
 //! ```
 
@@ -23,7 +23,7 @@ pub use refusal::Refusal;
 pub const RECORD_LENGTH: usize = 219;
 
 /// The most stations that a file holds.
-pub const MAX_STATIONS: usize = 250;
+pub const MAX_STATIONS: usize = 298;
 
 /// The most bytes that a file has.
 pub const MAX_FILE_LENGTH: usize = (MAX_STATIONS + 1) * RECORD_LENGTH;
@@ -33,6 +33,14 @@ pub const MAX_LINE_LENGTH: usize = RECORD_LENGTH + 30;
 
 /// The length of the sheet for a file of this many stations.
 pub const fn sheet_length(stations: usize) -> usize {
+    3 * stations + 10
+}
+
+/// The most stations that a sheet of the old form has room for.
+pub const OLD_MAX_STATIONS: usize = 250;
+
+/// The length of the old form's sheet for a file of this many stations.
+pub const fn old_sheet_length(stations: usize) -> usize {
     2 * stations + 8
 }
 
@@ -51,9 +59,9 @@ pub fn rules() -> u32 {
 ///
 /// ```
 /// let header = [b' '; 219];
-/// let mut sheet = [0; 8];
+/// let mut sheet = [0; 10];
 /// desk::judge(&header, &mut sheet)?;
-/// assert_eq!(sheet, [0, 8, 2, 1, 0, 0, b'2', b'A']);
+/// assert_eq!(sheet, [0, 10, 3, 1, 0, 0, 0, 0, b'2', b'B']);
 /// assert_eq!(desk::judge(&[], &mut sheet), Err(desk::Refusal::FileNotRecords));
 /// # Ok::<(), desk::Refusal>(())
 /// ```
@@ -68,10 +76,10 @@ pub fn judge(file: &[u8], sheet: &mut [u8]) -> Result<(), Refusal> {
 /// let mut file = [b' '; 3 * 219];
 /// let mut sheet = [0; desk::sheet_length(2)];
 /// desk::judge(&file, &mut sheet)?;
-/// assert_eq!(sheet[..4], [3, 0, 3, 1]);
+/// assert_eq!(sheet[..6], [3, 0, 0, 3, 0, 1]);
 /// // The second station shares the old 13X of the first, so both rows are written.
 /// assert_eq!(desk::replace(&mut file, &mut sheet, 1, &[b'1'; 219])?, 2);
-/// assert_eq!(sheet[..4], [1, 0, 3, 0]);
+/// assert_eq!(sheet[..6], [1, 0, 0, 3, 0, 0]);
 /// # Ok::<(), desk::Refusal>(())
 /// ```
 pub fn replace(
@@ -82,6 +90,37 @@ pub fn replace(
 ) -> Result<usize, Refusal> {
     let (refusal, rows) = raw::replace(file, sheet, number, record);
     answer(refusal, 0, rows)
+}
+
+/// Fills a sheet with what one of the old form says, which "2A" ends. Refusals: 1 to 4, 13.
+///
+/// ```
+/// let file = [b' '; 2 * 219];
+/// let old = [3, 0, 0, 10, 2, 1, 1, 1, b'2', b'A'];
+/// let mut sheet = [0; desk::sheet_length(1)];
+/// desk::turn_forward(&file, &old, &mut sheet)?;
+/// assert_eq!(sheet, [3, 0, 0, 0, 13, 3, 1, 0, 1, 0, 1, b'2', b'B']);
+/// assert_eq!(desk::turn_forward(&file, &old[1..], &mut sheet), Err(desk::Refusal::SheetLength));
+/// # Ok::<(), desk::Refusal>(())
+/// ```
+pub fn turn_forward(file: &[u8], old: &[u8], sheet: &mut [u8]) -> Result<(), Refusal> {
+    answer(raw::turn_forward(file, old, sheet), 0, ())
+}
+
+/// Fills a sheet of the old form with what a sheet says, of numbers the low byte, for up to 250
+/// stations. Refusals: 1 to 4, 13.
+///
+/// ```
+/// let file = [b' '; 2 * 219];
+/// let mut sheet = [0; desk::sheet_length(1)];
+/// desk::judge(&file, &mut sheet)?;
+/// let mut old = [0; desk::old_sheet_length(1)];
+/// desk::turn_back(&file, &sheet, &mut old)?;
+/// assert_eq!(old, [3, 0, 0, 10, 2, 1, 1, 1, b'2', b'A']);
+/// # Ok::<(), desk::Refusal>(())
+/// ```
+pub fn turn_back(file: &[u8], sheet: &[u8], old: &mut [u8]) -> Result<(), Refusal> {
+    answer(raw::turn_back(file, sheet, old), 0, ())
 }
 
 /// The piece of the file that holds a field of record `number`, 0 being the header.

@@ -19,6 +19,9 @@ type Check = unsafe extern "C" fn(*const u8, usize, *mut u8) -> u8;
 /// A call that reads from one slice and writes into another.
 type Rewrite = unsafe extern "C" fn(*const u8, usize, *mut u8, usize, *mut u8) -> u8;
 
+/// A call that turns a list's sheet into one of another form.
+type Turn = unsafe extern "C" fn(*const u8, usize, *const u8, usize, *mut u8, usize) -> u8;
+
 /// A call that sets a value that may be blank.
 type Setter = unsafe extern "C" fn(*mut u8, usize, u8, i64, *mut u8) -> u8;
 
@@ -41,6 +44,22 @@ extern "C" {
         field: usize,
         offset: *mut usize,
         length: *mut usize,
+    ) -> u8;
+    fn desk_turn_forward(
+        file: *const u8,
+        file_length: usize,
+        given: *const u8,
+        given_length: usize,
+        lent: *mut u8,
+        lent_length: usize,
+    ) -> u8;
+    fn desk_turn_back(
+        file: *const u8,
+        file_length: usize,
+        given: *const u8,
+        given_length: usize,
+        lent: *mut u8,
+        lent_length: usize,
     ) -> u8;
     fn desk_station_code(record: *const u8, record_length: usize, code: *mut u8) -> u8;
     fn desk_header_code(record: *const u8, record_length: usize, code: *mut u8) -> u8;
@@ -151,6 +170,16 @@ pub fn replace(file: &mut [u8], sheet: &mut [u8], number: usize, record: &[u8]) 
     (refusal, rows)
 }
 
+/// `desk_turn_forward`: the refusal.
+pub fn turn_forward(file: &[u8], given: &[u8], lent: &mut [u8]) -> u8 {
+    turn(desk_turn_forward, file, given, lent)
+}
+
+/// `desk_turn_back`: the refusal.
+pub fn turn_back(file: &[u8], given: &[u8], lent: &mut [u8]) -> u8 {
+    turn(desk_turn_back, file, given, lent)
+}
+
 /// `desk_show`: the refusal, the field's offset and its length.
 pub fn show(file: &[u8], number: usize, field: usize) -> (u8, usize, usize) {
     let (mut offset, mut length) = (NO_COUNT, NO_COUNT);
@@ -248,6 +277,13 @@ pub fn long_field(line: &[u8]) -> (u8, usize, usize, usize) {
     let refusal =
         unsafe { desk_long_field(line.as_ptr(), line.len(), &mut number, &mut length, &mut most) };
     (refusal, number, length, most)
+}
+
+fn turn(call: Turn, file: &[u8], given: &[u8], lent: &mut [u8]) -> u8 {
+    // SAFETY: the pointers are good for the lengths of their slices; `lent` is borrowed alone.
+    unsafe {
+        call(file.as_ptr(), file.len(), given.as_ptr(), given.len(), lent.as_mut_ptr(), lent.len())
+    }
 }
 
 fn check(call: Check, record: &[u8]) -> (u8, u8) {

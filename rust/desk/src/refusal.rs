@@ -5,13 +5,13 @@ use std::fmt;
 /// Why a call was refused; a refused call changes no lent byte.
 #[derive(Clone, Copy, Debug, PartialEq, Eq)]
 pub enum Refusal {
-    /// 1: the file is longer than 54,969 bytes.
+    /// 1: the file is longer than 65,481 bytes.
     FileTooLong,
     /// 2: the file's length is zero or no multiple of 219.
     FileNotRecords,
-    /// 3: the lent sheet is not exactly 2n + 8 bytes.
+    /// 3: the lent sheet is not exactly 3n + 10 bytes.
     SheetLength,
-    /// 4: the sheet's trailer lacks "2A", width 2 or distance 2n + 8.
+    /// 4: the sheet's trailer lacks "2B", width 3 or distance 3n + 10.
     SheetTrailer,
     /// 5: the record number is above n.
     NoSuchRecord,
@@ -32,6 +32,8 @@ pub enum Refusal {
     FieldTooLong,
     /// 12: the lent buffer is shorter than the line.
     BufferTooShort,
+    /// 13: a sheet of the old form for more than 250 stations.
+    OldFormTooMany,
 }
 
 impl Refusal {
@@ -39,7 +41,7 @@ impl Refusal {
     ///
     /// # Panics
     ///
-    /// With a number above 12, which the library never gives.
+    /// With a number above 13, which the library never gives.
     pub(crate) fn from_numbers(number: u8, code: u8) -> Option<Refusal> {
         let refusal = match number {
             0 => return None,
@@ -55,6 +57,7 @@ impl Refusal {
             10 => Refusal::NotALine,
             11 => Refusal::FieldTooLong,
             12 => Refusal::BufferTooShort,
+            13 => Refusal::OldFormTooMany,
             _ => panic!("the library has no refusal {number}"),
         };
         Some(refusal)
@@ -80,6 +83,7 @@ impl Refusal {
             Refusal::NotALine => 10,
             Refusal::FieldTooLong => 11,
             Refusal::BufferTooShort => 12,
+            Refusal::OldFormTooMany => 13,
         }
     }
 }
@@ -87,9 +91,9 @@ impl Refusal {
 impl fmt::Display for Refusal {
     fn fmt(&self, f: &mut fmt::Formatter<'_>) -> fmt::Result {
         match self {
-            Refusal::FileTooLong => write!(f, "the file is longer than 54,969 bytes"),
+            Refusal::FileTooLong => write!(f, "the file is longer than 65,481 bytes"),
             Refusal::FileNotRecords => write!(f, "the file's length is zero or no multiple of 219"),
-            Refusal::SheetLength => write!(f, "the sheet is not 2n + 8 bytes"),
+            Refusal::SheetLength => write!(f, "the sheet is not as long as its form asks"),
             Refusal::SheetTrailer => write!(f, "the sheet's trailer is not that of this file"),
             Refusal::NoSuchRecord => write!(f, "the file has no record with this number"),
             Refusal::RecordLength => write!(f, "the record is not 219 bytes"),
@@ -99,6 +103,7 @@ impl fmt::Display for Refusal {
             Refusal::NotALine => write!(f, "the line has not 29 semicolons and a line feed"),
             Refusal::FieldTooLong => write!(f, "a field of the line is longer than its columns"),
             Refusal::BufferTooShort => write!(f, "the buffer is shorter than the line"),
+            Refusal::OldFormTooMany => write!(f, "the old form has room for 250 stations"),
         }
     }
 }
@@ -112,7 +117,7 @@ mod tests {
     #[test]
     fn numbers_are_kept() {
         assert_eq!(Refusal::from_numbers(0, 0), None);
-        for number in 1..=12 {
+        for number in 1..=13 {
             assert_eq!(Refusal::from_numbers(number, 5).map(Refusal::number), Some(number));
         }
         assert_eq!(Refusal::from_numbers(9, 5), Some(Refusal::RuleBroken { code: 5 }));

@@ -13,6 +13,9 @@ pub type Check = fn(&[u8]) -> (u8, u8);
 /// A call that reads from one slice and writes into another.
 pub type Rewrite = fn(&[u8], &mut [u8]) -> (u8, u8);
 
+/// A call that turns a sheet.
+type Turn = fn(&[u8], &[u8], &mut [u8]) -> u8;
+
 /// A call that sets one value of a record.
 pub type Setter = fn(&mut [u8], u8, i64) -> (u8, u8);
 
@@ -160,6 +163,39 @@ impl Comparison {
         }
         file.copy_from_slice(our_file.part());
         sheet.copy_from_slice(our_sheet.part());
+    }
+
+    /// Compares turning forward into a sheet that holds `lent`; answers what it holds then.
+    pub fn turn_forward(&mut self, file: &[u8], given: &[u8], lent: &[u8]) -> Vec<u8> {
+        self.turn("turn_forward", raw::turn_forward, oracle::turn_forward, [file, given, lent])
+    }
+
+    /// Compares turning back in the same way.
+    pub fn turn_back(&mut self, file: &[u8], given: &[u8], lent: &[u8]) -> Vec<u8> {
+        self.turn("turn_back", raw::turn_back, oracle::turn_back, [file, given, lent])
+    }
+
+    fn turn(
+        &mut self,
+        name: &'static str,
+        library: Turn,
+        peer: Turn,
+        inputs: [&[u8]; 3],
+    ) -> Vec<u8> {
+        let [file, given, lent] = inputs;
+        let (our_file, our_given) = (Lent::new(file), Lent::new(given));
+        let (mut ours, mut theirs) = (Lent::new(lent), Lent::new(lent));
+        let refusal = library(our_file.part(), our_given.part(), ours.part_mut());
+        let inputs = [given, lent, file];
+        agree(name, refusal, peer(file, given, theirs.part_mut()), &inputs);
+        agree_bytes(name, &ours, &theirs, &inputs);
+        untouched(name, &our_file, file);
+        untouched(name, &our_given, given);
+        if refusal != 0 {
+            untouched(name, &ours, lent);
+        }
+        self.tally.refusal(name, refusal);
+        ours.part().to_vec()
     }
 
     /// Compares showing.

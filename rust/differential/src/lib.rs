@@ -2,7 +2,8 @@
 //!
 //! Input is made by a generator with a fixed seed: fields in good spellings and near misses,
 //! records that break each rule in turn, damaged bytes, wrong lengths, lines of semicolon lists,
-//! and runs of replacements in files of up to 250 stations. Each call is made of both on equal
+//! and runs of replacements in files of up to 298 stations,
+//! whose sheets are turned to the old form and back. Each call is made of both on equal
 //! bytes; refusals, codes, counts and every lent byte must be equal after it, and refused calls
 //! must leave all bytes.
 

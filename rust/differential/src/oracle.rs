@@ -13,6 +13,16 @@ pub fn replace(file: &mut [u8], sheet: &mut [u8], number: usize, record: &[u8]) 
     (numbers(&answer).0, answer.unwrap_or(0))
 }
 
+/// `desk_turn_forward`.
+pub fn turn_forward(file: &[u8], given: &[u8], lent: &mut [u8]) -> u8 {
+    numbers(&peer::turn_forward(file, given, lent)).0
+}
+
+/// `desk_turn_back`.
+pub fn turn_back(file: &[u8], given: &[u8], lent: &mut [u8]) -> u8 {
+    numbers(&peer::turn_back(file, given, lent)).0
+}
+
 /// `desk_show`.
 pub fn show(file: &[u8], number: usize, field: usize) -> (u8, usize, usize) {
     let answer = peer::locate(file, number, field);

@@ -1,6 +1,8 @@
 //! Runs of replacements in one file, with its own sheet or that of another.
 
-use peer::{sheet_length, Record, MAX_FILE_LENGTH, STATION_FIELDS};
+use peer::{
+    old_sheet_length, sheet_length, Record, MAX_FILE_LENGTH, OLD_MAX_STATIONS, STATION_FIELDS,
+};
 
 use crate::calls::Comparison;
 use crate::fields;
@@ -8,7 +10,7 @@ use crate::random::Random;
 use crate::records::{self, OTHER_LENGTHS};
 
 /// How many stations the files have; the largest is the slowest.
-const SIZES: [usize; 12] = [0, 1, 1, 2, 2, 2, 3, 10, 10, 10, 10, 250];
+const SIZES: [usize; 14] = [0, 1, 1, 2, 2, 2, 3, 10, 10, 10, 10, 250, 257, 298];
 
 /// How many calls a run makes.
 const STEPS: usize = 16;
@@ -88,7 +90,53 @@ impl Run<'_> {
         if own_sheet {
             self.either_order();
         }
+        self.turn();
         self.show();
+    }
+
+    /// Turns the sheet to the old form and back, then with something wrong; what is turned there
+    /// and back is the sheet again where the old form has room for it.
+    fn turn(&mut self) {
+        let n = self.stations;
+        let small = vec![self.random.byte(); old_sheet_length(n)];
+        let old = self.comparison.turn_back(&self.file, &self.sheet, &small);
+        let (spaces, mut given) = (vec![self.random.byte(); self.sheet.len()], old.clone());
+        let new = self.comparison.turn_forward(&self.file, &old, &spaces);
+        if n <= OLD_MAX_STATIONS {
+            let again = self.comparison.turn_back(&self.file, &new, &small);
+            assert_eq!(again, old, "a sheet turned there and back is another");
+        }
+        if n <= OLD_MAX_STATIONS && self.sheet == self.judged() {
+            assert_eq!(new, self.sheet, "a sheet turned back and there is another");
+        }
+        // An old sheet of any n, by hand, since turning back gives none above 250.
+        given[2 * n..].copy_from_slice(&[0, 0, 2, 0, 1, 1, b'2', b'A']);
+        given[2 * n..][..2].copy_from_slice(&(old_sheet_length(n) as u16).to_be_bytes());
+        self.comparison.turn_forward(&self.file, &given, &spaces);
+        for _ in 0..8 {
+            let mut sheets = [self.sheet.clone(), given.clone(), spaces.clone(), small.clone()];
+            let which = self.random.below(4);
+            let place = sheets[which].len() - self.random.pick(&[1, 2, 8]);
+            match self.random.below(3) {
+                0 => sheets[which].truncate(place),
+                1 => sheets[which].push(0),
+                _ => sheets[which][place] ^= self.random.pick(&[1, 3, 128]),
+            }
+            let mut file = self.file.clone();
+            if self.random.one_in(4) {
+                let length = file.len();
+                file.resize(self.random.pick(&[0, length - 1, MAX_FILE_LENGTH + 1]), b' ');
+            }
+            self.comparison.turn_back(&file, &sheets[0], &sheets[3]);
+            self.comparison.turn_forward(&file, &sheets[1], &sheets[2]);
+        }
+    }
+
+    /// The sheet judged from the file, by the peer.
+    fn judged(&self) -> Vec<u8> {
+        let mut sheet = vec![0; self.sheet.len()];
+        peer::judge(&self.file, &mut sheet).expect("the file and its sheet have their lengths");
+        sheet
     }
 
     /// A sheet judged from another file, with any bytes in its rows now and then.
@@ -97,7 +145,7 @@ impl Run<'_> {
         let other = self.file_with(header);
         let mut sheet = self.comparison.judge(&other, self.sheet.clone());
         if self.random.one_in(2) {
-            sheet[..2 * self.stations].fill_with(|| self.random.byte());
+            sheet[..3 * self.stations].fill_with(|| self.random.byte());
         }
         sheet
     }
@@ -210,17 +258,17 @@ impl Run<'_> {
         }
         if wrong(3) && self.random.one_in(2) {
             let length = sheet.len();
-            let lengths = [0, 1, 7, length - 1, length + 1, length - 2, length + 2, length + 256];
+            let lengths = [0, 1, 9, length - 1, length + 1, length - 2, length + 2, length + 256];
             sheet.resize(self.random.pick(&lengths), 0);
         }
         if wrong(4) && !sheet.is_empty() {
-            let from_end = self.random.pick(&[1, 2, 6, 7, 8]).min(sheet.len());
+            let from_end = self.random.pick(&[1, 2, 8, 9, 10]).min(sheet.len());
             let place = sheet.len() - from_end;
             sheet[place] = sheet[place].wrapping_add(self.random.pick(&[1, 2, 255]));
         }
         if wrong(5) {
             let above = self.stations + 1;
-            number = self.random.pick(&[above, above + 1, 251, 256, 1 << 32, usize::MAX]);
+            number = self.random.pick(&[above, above + 1, 299, 512, 1 << 32, usize::MAX]);
         }
         if wrong(6) {
             let length = self.random.pick(&OTHER_LENGTHS);

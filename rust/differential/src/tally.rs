@@ -7,6 +7,8 @@ use std::fmt;
 const REFUSALS: &[(&str, &[u8])] = &[
     ("judge", &[0, 1, 2, 3]),
     ("replace", &[0, 1, 2, 3, 4, 5, 6]),
+    ("turn_forward", &[0, 1, 2, 3, 4, 13]),
+    ("turn_back", &[0, 1, 2, 3, 4, 13]),
     ("show", &[0, 1, 2, 5, 8]),
     ("station_code", &[0, 6, 9]),
     ("header_code", &[0, 6, 9]),
@@ -35,6 +37,7 @@ pub struct Tally {
     sheet_header_codes: BTreeMap<u8, u64>,
     rows_written: BTreeMap<usize, u64>,
     twins: u64,
+    far_twins: u64,
 }
 
 impl Tally {
@@ -60,10 +63,12 @@ impl Tally {
 
     /// Counts the codes and twins of a judged sheet.
     pub fn sheet(&mut self, sheet: &[u8]) {
-        let (rows, trailer) = sheet.split_at(sheet.len() - 8);
-        for row in rows.chunks_exact(2) {
+        let (rows, trailer) = sheet.split_at(sheet.len() - 10);
+        for row in rows.chunks_exact(3) {
             *self.row_codes.entry(row[0]).or_default() += 1;
-            self.twins += u64::from(row[1] != 0);
+            let twin = u16::from_be_bytes([row[1], row[2]]);
+            self.twins += u64::from(twin != 0);
+            self.far_twins += u64::from(twin > 255);
         }
         *self.sheet_header_codes.entry(trailer[3]).or_default() += 1;
     }
@@ -95,6 +100,7 @@ impl Tally {
         assert_met("row", &self.row_codes, 39);
         assert_met("sheet's header", &self.sheet_header_codes, 15);
         assert!(self.twins > 0, "no twin was met");
+        assert!(self.far_twins > 0, "no twin above 255 was met");
         for rows in 0..=2 {
             assert!(self.rows_written.contains_key(&rows), "no replacement wrote {rows} rows");
         }

@@ -7,7 +7,7 @@ use std::path::{Path, PathBuf};
 
 use crate::status::{Outcome, Trouble};
 
-/// The most bytes of a list that are read; one of 250 stations has at most 62,250.
+/// The most bytes of a list that are read; one of 298 stations has at most 74,202.
 const MOST: u64 = 16 << 20;
 
 /// The words of a command line: options of the program's own, and files.

@@ -14,6 +14,9 @@ const COUNT: usize = 9;
 /// The field of a station that holds its reference, 13X.
 const REFERENCE: usize = 30;
 
+/// The bytes of a row of a sheet: a code, and a twin of two bytes.
+const ROW_WIDTH: usize = 3;
+
 /// A file that the library judges, and the sheet that it gave.
 pub struct Filing {
     bytes: Vec<u8>,
@@ -81,20 +84,22 @@ impl Filing {
 
     /// The code of the header, 0 where it breaks no rule.
     pub fn header_code(&self) -> u8 {
-        self.trailer(3)
+        self.sheet[ROW_WIDTH * self.stations() + 3]
     }
 
     /// How many stations are bad.
     pub fn bad(&self) -> usize {
-        self.trailer(5).into()
+        self.number(ROW_WIDTH * self.stations() + 6)
     }
 
     /// The desk's report: the header's code, a line for each bad station, the totals.
     pub fn report(&self) -> String {
         let mut report = format!("header {}\n", self.header_code());
-        let rows = self.sheet.chunks(2).take(self.stations());
-        for (index, row) in rows.enumerate().filter(|(_, row)| *row != [0, 0]) {
-            report += &format!("station {} code {} twin {}\n", index + 1, row[0], row[1]);
+        for station in 1..=self.stations() {
+            let (code, twin) = (self.code(station), self.twin(station));
+            if (code, twin) != (0, 0) {
+                report += &format!("station {station} code {code} twin {twin}\n");
+            }
         }
         report + &format!("stations {} bad {}\n", self.stations(), self.bad())
     }
@@ -113,7 +118,7 @@ impl Filing {
             );
         }
         for station in 1..=self.stations() {
-            let twin = self.sheet[2 * station - 1];
+            let twin = self.twin(station);
             if twin != 0 {
                 let reference = quoted(self.reference(station));
                 words += &format!("station {station}: 13X {reference} is that of station {twin} too; one of them needs another reference, or has to go\n");
@@ -122,8 +127,19 @@ impl Filing {
         words
     }
 
-    fn trailer(&self, byte: usize) -> u8 {
-        self.sheet[2 * self.stations() + byte]
+    /// A station's code, as its row says it.
+    fn code(&self, station: usize) -> u8 {
+        self.sheet[ROW_WIDTH * (station - 1)]
+    }
+
+    /// A station's twin.
+    fn twin(&self, station: usize) -> usize {
+        self.number(ROW_WIDTH * (station - 1) + 1)
+    }
+
+    /// A number of two bytes of the sheet, high byte first.
+    fn number(&self, place: usize) -> usize {
+        u16::from_be_bytes([self.sheet[place], self.sheet[place + 1]]).into()
     }
 }
 

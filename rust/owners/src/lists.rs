@@ -16,7 +16,7 @@ pub struct Taken<'text> {
     pub refused: Vec<(usize, &'text [u8], Refusal)>,
 }
 
-/// Takes in the lines of a list; a good line behind 250 records is refused with 1.
+/// Takes in the lines of a list; a good line behind 298 records is refused with 1.
 pub fn take_in(text: &[u8]) -> Taken<'_> {
     let mut taken = Taken { records: Vec::new(), refused: Vec::new() };
     for (index, line) in lines(text).enumerate() {

@@ -20,7 +20,7 @@ pub fn explain(number: usize, line: &[u8], refusal: Refusal) -> Vec<String> {
         Refusal::FieldTooLong => too_long(line, &mut words),
         Refusal::RuleBroken { code } => broken(line, code.into(), &mut words),
         Refusal::FileTooLong => {
-            words.push("a filing has at most 250 stations; this line is one more".to_string())
+            words.push("a filing has at most 298 stations; this line is one more".to_string())
         }
         other => words.push(other.to_string()),
     }

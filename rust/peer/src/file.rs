@@ -1,4 +1,4 @@
-//! Files and their sheets: judging, replacing and showing.
+//! Files and their sheets, with wish 4 of 02: judging, replacing and showing.
 
 use std::ops::Range;
 
@@ -8,14 +8,14 @@ use crate::refusal::Refusal;
 use crate::station::station_code;
 
 /// The most stations that a file holds.
-pub const MAX_STATIONS: usize = 250;
+pub const MAX_STATIONS: usize = 298;
 
-/// The most bytes that a file has: a header and 250 stations.
+/// The most bytes that a file has: a header and 298 stations.
 pub const MAX_FILE_LENGTH: usize = (MAX_STATIONS + 1) * RECORD_LENGTH;
 
-const ROW_WIDTH: usize = 2;
-const TRAILER_LENGTH: usize = 8;
-const MARK: [u8; 2] = *b"2A";
+const ROW_WIDTH: usize = 3;
+const TRAILER_LENGTH: usize = 10;
+const MARK: [u8; 2] = *b"2B";
 
 type Row = [u8; ROW_WIDTH];
 
@@ -30,12 +30,12 @@ pub fn judge(file: &[u8], sheet: &mut [u8]) -> Result<(), Refusal> {
     let (header, stations) = records(file);
     let (rows, trailer) = split_sheet(sheet, stations.len())?;
     for (k, (row, station)) in rows.iter_mut().zip(stations).enumerate() {
-        *row = [station_code(station), twin(first(stations, reference(station)), k)];
+        *row = row_of(station, twin(first(stations, reference(station)), k));
     }
     let [high, low] = distance(stations.len());
     let header_code = header_code_in_file(header, stations.len());
-    let [lowest, count] = bad_rows(rows);
-    *trailer = [high, low, ROW_WIDTH as u8, header_code, lowest, count, MARK[0], MARK[1]];
+    *trailer = [high, low, ROW_WIDTH as u8, header_code, 0, 0, 0, 0, MARK[0], MARK[1]];
+    count_rows(rows, trailer);
     Ok(())
 }
 
@@ -66,7 +66,7 @@ pub fn replace(
             mend(stations, rows, k, &old)
         }
     };
-    [trailer[4], trailer[5]] = bad_rows(rows);
+    count_rows(rows, trailer);
     Ok(written)
 }
 
@@ -89,7 +89,7 @@ pub fn locate(file: &[u8], number: usize, field: usize) -> Result<Range<usize>, 
     Ok(start..start + length)
 }
 
-fn check_length(file: &[u8]) -> Result<(), Refusal> {
+pub(crate) fn check_length(file: &[u8]) -> Result<(), Refusal> {
     if file.len() > MAX_FILE_LENGTH {
         Err(Refusal::FileTooLong)
     } else if file.is_empty() || !file.len().is_multiple_of(RECORD_LENGTH) {
@@ -125,8 +125,8 @@ fn distance(stations: usize) -> [u8; 2] {
 }
 
 fn check_trailer(trailer: &[u8; TRAILER_LENGTH], stations: usize) -> Result<(), Refusal> {
-    let [high, low, width, .., two, a] = *trailer;
-    if [high, low] == distance(stations) && usize::from(width) == ROW_WIDTH && [two, a] == MARK {
+    let [high, low, width, .., two, b] = *trailer;
+    if [high, low] == distance(stations) && usize::from(width) == ROW_WIDTH && [two, b] == MARK {
         Ok(())
     } else {
         Err(Refusal::SheetTrailer)
@@ -142,10 +142,16 @@ fn first(stations: &[Record], wanted: &[u8; 15]) -> usize {
     stations.iter().position(|station| reference(station) == wanted).unwrap_or(stations.len())
 }
 
-/// The twin byte of the station at `index`, given the first station with its 13X.
-fn twin(first: usize, index: usize) -> u8 {
+/// A row: the code, then the twin, high byte first.
+fn row_of(station: &Record, twin: u16) -> Row {
+    let [high, low] = twin.to_be_bytes();
+    [station_code(station), high, low]
+}
+
+/// The twin of the station at `index`, given the first station with its 13X.
+fn twin(first: usize, index: usize) -> u16 {
     if first < index {
-        first as u8 + 1
+        first as u16 + 1
     } else {
         0
     }
@@ -162,16 +168,17 @@ fn mend(stations: &[Record], rows: &mut [Row], k: usize, old: &[u8; 15]) -> usiz
             own if own == old => first_old,
             _ => continue,
         };
-        *row = [station_code(station), twin(first, j)];
+        *row = row_of(station, twin(first, j));
         written += 1;
     }
     written
 }
 
-/// The lowest bad row or 0, and the number of bad rows.
-fn bad_rows(rows: &[Row]) -> [u8; 2] {
-    let bad = |row: &Row| *row != [0, 0];
+/// Writes the lowest bad row or 0, and the number of bad rows.
+fn count_rows(rows: &[Row], trailer: &mut [u8; TRAILER_LENGTH]) {
+    let bad = |row: &Row| *row != [0; ROW_WIDTH];
     let lowest = rows.iter().position(bad).map_or(0, |index| index + 1);
     let count = rows.iter().filter(|row| bad(row)).count();
-    [lowest as u8, count as u8]
+    trailer[4..6].copy_from_slice(&(lowest as u16).to_be_bytes());
+    trailer[6..8].copy_from_slice(&(count as u16).to_be_bytes());
 }

@@ -1,16 +1,16 @@
-//! Filing files of document 01, and wishes 1, 2 and 10 of 02, written a second time from the
+//! Filing files of document 01, and wishes 1, 2, 4 and 10 of 02, written a second time from the
 //! papers alone.
 //!
-//! A filing file is one header and up to 250 stations, each a record of 219 bytes. This crate
+//! A filing file is one header and up to 298 stations, each a record of 219 bytes. This crate
 //! reads and writes records, judges a file into a sheet, replaces a record, shows a field and
 //! turns stations into semicolon lines and back. It shares no line with the proved library; the
 //! two are compared on random input.
 //!
 //! ```
 //! let mut file = [b' '; 2 * 219];
-//! let mut sheet = [0; 10];
+//! let mut sheet = [0; 13];
 //! peer::judge(&file, &mut sheet).unwrap();
-//! assert_eq!(sheet, [3, 0, 0, 10, 2, 1, 1, 1, b'2', b'A']);
+//! assert_eq!(sheet, [3, 0, 0, 0, 13, 3, 1, 0, 1, 0, 1, b'2', b'B']);
 //! file[0] = b'1';
 //! assert_eq!(peer::judge(&file[..100], &mut sheet), Err(peer::Refusal::FileNotRecords));
 //! ```
@@ -26,6 +26,7 @@ mod refusal;
 mod rules;
 mod spelling;
 mod station;
+mod turning;
 mod values;
 
 /// The number of the rules followed here: 1 for document 01, 2 with wish 2 of 02.
@@ -36,4 +37,5 @@ pub use file::{judge, locate, replace, sheet_length, show, MAX_FILE_LENGTH, MAX_
 pub use header::{header_code, Header};
 pub use refusal::Refusal;
 pub use station::{station_code, Station};
+pub use turning::{old_sheet_length, turn_back, turn_forward, OLD_MAX_STATIONS};
 pub use values::{Date, Frequency, Kilometres, Metres, Place, Tenths, Unit};

@@ -1,17 +1,17 @@
-//! The reasons for which a call does nothing, by their numbers in 01 and in wish 1 of 02.
+//! The reasons for which a call does nothing, by their numbers in 01 and in wishes 1 and 4 of 02.
 
 use std::fmt;
 
 /// Why a call was refused; a refused call changes no lent byte.
 #[derive(Clone, Copy, Debug, PartialEq, Eq)]
 pub enum Refusal {
-    /// 1: the file is longer than 54,969 bytes.
+    /// 1: the file is longer than 65,481 bytes.
     FileTooLong,
     /// 2: the file's length is zero or no multiple of 219.
     FileNotRecords,
-    /// 3: the lent sheet is not exactly 2n + 8 bytes.
+    /// 3: the lent sheet is not exactly 3n + 10 bytes.
     SheetLength,
-    /// 4: the sheet's trailer lacks "2A", width 2 or distance 2n + 8.
+    /// 4: the sheet's trailer lacks "2B", width 3 or distance 3n + 10.
     SheetTrailer,
     /// 5: the record number is above n.
     NoSuchRecord,
@@ -29,6 +29,8 @@ pub enum Refusal {
     FieldTooLong,
     /// 12: the lent buffer is shorter than the line.
     BufferTooShort,
+    /// 13: an old form with more than 250 stations.
+    OldFormTooMany,
 }
 
 impl Refusal {
@@ -47,6 +49,7 @@ impl Refusal {
             Refusal::NotALine => 10,
             Refusal::FieldTooLong => 11,
             Refusal::BufferTooShort => 12,
+            Refusal::OldFormTooMany => 13,
         }
     }
 

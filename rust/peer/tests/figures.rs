@@ -445,26 +445,54 @@ fn header_codes() {
 fn two_equal_stations() {
     let mut file = file(header(2), &[*S, *S]);
     let mut sheet = judged(&file);
-    assert_eq!(sheet, [0, 0, 0, 1, 0, 0x0c, 2, 0, 2, 1, 0x32, 0x41]);
+    assert_eq!(sheet, [0, 0, 0, 0, 0, 1, 0, 0x10, 3, 0, 0, 2, 0, 1, 0x32, 0x42]);
     let renamed = s_with(30, b"AUT2311AB01A002");
     assert_eq!(replace(&mut file, &mut sheet, 1, &renamed), Ok(2));
-    assert_eq!(sheet, [0, 0, 0, 0, 0, 0x0c, 2, 0, 0, 0, 0x32, 0x41]);
+    assert_eq!(sheet, [0, 0, 0, 0, 0, 0, 0, 0x10, 3, 0, 0, 0, 0, 0, 0x32, 0x42]);
     assert_eq!(sheet, judged(&file));
 }
 
 #[test]
 fn a_header_alone() {
-    assert_eq!(judged(&header(0)), [0, 8, 2, 0, 0, 0, b'2', b'A']);
-    assert_eq!(judged(&header(1)), [0, 8, 2, 15, 0, 0, b'2', b'A']);
+    assert_eq!(judged(&header(0)), [0, 10, 3, 0, 0, 0, 0, 0, b'2', b'B']);
+    assert_eq!(judged(&header(1)), [0, 10, 3, 15, 0, 0, 0, 0, b'2', b'B']);
 }
 
 #[test]
 fn a_full_file() {
-    let full = file(header(250), &[*S; 250]);
+    let full = file(header(298), &[*S; 298]);
     let sheet = judged(&full);
-    assert_eq!(&sheet[498..], [0, 1, 0x01, 0xfc, 2, 0, 2, 249, b'2', b'A']);
+    assert_eq!(&sheet[891..], [0, 0, 1, 0x03, 0x88, 3, 0, 0, 2, 1, 41, b'2', b'B']);
     let long = [full, S.to_vec()].concat();
-    assert_eq!(judge(&long, &mut [0; 510]), Err(Refusal::FileTooLong));
+    assert_eq!(judge(&long, &mut [0; 907]), Err(Refusal::FileTooLong));
+}
+
+#[test]
+fn numbers_of_two_bytes() {
+    let mut stations: Vec<Record> =
+        (1..=298).map(|k| s_with(30, format!("AUT2311AB{:03}001", k).as_bytes())).collect();
+    stations[297] = stations[256];
+    let sheet = judged(&file(header(298), &stations));
+    assert_eq!(&sheet[891..], [0, 1, 1, 0x03, 0x88, 3, 0, 1, 42, 0, 1, b'2', b'B']);
+}
+
+#[test]
+fn turning() {
+    let two = file(header(2), &[*S, *S]);
+    let old = [0, 0, 0, 1, 0, 0x0c, 2, 0, 2, 1, 0x32, 0x41];
+    let mut new = [9; 16];
+    assert_eq!(turn_forward(&two, &old, &mut new), Ok(()));
+    assert_eq!(new.as_slice(), judged(&two));
+    let mut again = [9; 12];
+    assert_eq!(turn_back(&two, &new, &mut again), Ok(()));
+    assert_eq!(again, old);
+    assert_eq!(turn_forward(&two, &new, &mut again), Err(Refusal::SheetLength));
+    again[11] = b'B';
+    assert_eq!(turn_forward(&two, &again, &mut new), Err(Refusal::SheetTrailer));
+    let many = file(header(251), &[*S; 251]);
+    let mut small = vec![7; old_sheet_length(251)];
+    assert_eq!(turn_back(&many, &judged(&many), &mut small), Err(Refusal::OldFormTooMany));
+    assert!(small.iter().all(|byte| *byte == 7));
 }
 
 #[test]
@@ -472,17 +500,17 @@ fn replacing_the_header_writes_no_row() {
     let mut file = file(header(2), &[*S, *S]);
     let mut sheet = judged(&file);
     assert_eq!(replace(&mut file, &mut sheet, 0, &header(3)), Ok(0));
-    assert_eq!(sheet, [0, 0, 0, 1, 0, 0x0c, 2, 15, 2, 1, 0x32, 0x41]);
+    assert_eq!(sheet, [0, 0, 0, 0, 0, 1, 0, 0x10, 3, 15, 0, 2, 0, 1, 0x32, 0x42]);
 }
 
 #[test]
 fn rows_with_the_old_or_new_reference_are_written_even_where_they_are_equal() {
     let mut file = file(header(4), &[*S; 4]);
     let mut sheet = judged(&file);
-    sheet[..8].fill(9);
+    sheet[..12].fill(9);
     assert_eq!(replace(&mut file, &mut sheet, 2, S), Ok(3));
-    assert_eq!(&sheet[..8], [9, 9, 0, 1, 0, 1, 0, 1]);
-    assert_eq!(&sheet[12..14], [1, 4]);
+    assert_eq!(&sheet[..12], [9, 9, 9, 0, 0, 1, 0, 0, 1, 0, 0, 1]);
+    assert_eq!(&sheet[16..20], [0, 1, 0, 4]);
 }
 
 #[test]
@@ -490,7 +518,7 @@ fn broken_records_are_put_in() {
     let mut file = file(header(1), &[*S]);
     let mut sheet = judged(&file);
     assert_eq!(replace(&mut file, &mut sheet, 1, &[b' '; 219]), Ok(1));
-    assert_eq!(sheet, [3, 0, 0, 10, 2, 0, 1, 1, b'2', b'A']);
+    assert_eq!(sheet, [3, 0, 0, 0, 13, 3, 0, 0, 1, 0, 1, b'2', b'B']);
 }
 
 #[test]
@@ -503,11 +531,11 @@ fn replacing_refuses_in_order() {
         assert_eq!((lent_file.as_slice(), lent_sheet.as_slice()), (file, sheet));
         answer.unwrap_err().number()
     };
-    assert_eq!(refused(&[0; 54_970], &[], 9, &[]), 1);
+    assert_eq!(refused(&[0; 65_482], &[], 9, &[]), 1);
     assert_eq!(refused(&good[1..], &[], 9, &[]), 2);
     assert_eq!(refused(&[], &[], 9, &[]), 2);
     assert_eq!(refused(&good, &sheet[1..], 9, &[]), 3);
-    for byte in [2, 3, 4, 8, 9] {
+    for byte in [3, 4, 5, 11, 12] {
         let mut damaged = sheet.clone();
         damaged[byte] ^= 1;
         assert_eq!(refused(&good, &damaged, 9, &[]), 4);
