@@ -4,3 +4,4 @@ pub mod Unique
 pub mod OldBox
 pub mod StaysRight
 pub mod ThereAndBack
+pub mod TurnedCalls

@@ -1,13 +1,13 @@
--- A sheet of the old form, turned and turned back, is the sheet again; and so is the sheet judged from a list, turned back and there.
+-- A sheet of the old form, turned and turned back, is the sheet again; and so is one of ours that the old form can say, turned back and there.
 use mathlib.Core.Path.{_≡_, refl, sym, ap, _∙_}
 use mathlib.Core.Bool.{Bool, true, false, and-eq-true-iff}
 use mathlib.Core.List.{List, [], _∷_, _++_}
-use Prim.Native.Nat.{ℕ, zero, suc, _+_, _-_, _*_, _%_, _≤_, _<_}
+use Prim.Native.Nat.{ℕ, zero, suc, _+_, _-_, _*_, _/_, _%_, _≤_, _<_}
 use native.Mathlib.Nat.{mod-eq-of-lt, mul-zero}
 use native.Mathlib.Numerals.{add-one}
 use native.Mathlib.Omega.{arith}
 use lib.ListN.{length, getD, take, drop, length-drop}
-use lib.Seq.{length-take-le, getD-drop, drop-drop}
+use lib.Seq.{length-take-le, getD-take, getD-drop, drop-drop}
 use Rattle.columns.specs.Texts.{bytes, same}
 use Rattle.forms.specs.Counting.{rows}
 use Rattle.forms.specs.Forms.{Form, valueFrom, rowBytes, rowAt, codeIn, numberIn, shape, sheetBytes, trailerOf, headAt, lowestAt, foundAt, fitsForm}
@@ -92,6 +92,15 @@ in-rows f s (suc n) =
     let e : n + 1 - 1 ≡ n = omega arith in
     ap (λ (m : ℕ). rows (rowAt f s) m ++ drop (f .width * m) s) (sym (add-one n)) ∙ sym (row-kept (f .width) (rowAt f s) s n (rw e)) ∙ in-rows f s n
 
+-- A sheet whose rows and whose trailer say themselves is what it says.
+itself : (f : Form) (n : ℕ) (s : List ℕ) → ((i : ℕ) → i < n → rowAt f s (suc i) ≡ rowBytes f (codeIn (rowAt f s (suc i))) (numberIn f (rowAt f s (suc i)) 0 ∷ []))
+    → drop (f .width * n) s ≡ trailerOf f n (headAt f s n) (lowestAt f s n) (foundAt f s n) → saidAgain f n s ≡ s
+itself f n s each last =
+    ap (λ (r : List ℕ). r ++ trailerOf f n (headAt f s n) (lowestAt f s n) (foundAt f s n))
+    (sym (rows-cong (rowAt f s) (λ k. rowBytes f (codeIn (rowAt f s k)) (numberIn f (rowAt f s k) 0 ∷ [])) n each))
+    ∙ ap (λ (u : List ℕ). rows (rowAt f s) n ++ u) (sym last)
+    ∙ in-rows f s n
+
 -- A row of two bytes says itself,
 two-bytes : (r : List ℕ) → length r ≡ 2 → r ≡ rowBytes oldForm (codeIn r) (numberIn oldForm r 0 ∷ [])
 two-bytes [] e = absurd (omega arith)
@@ -136,12 +145,6 @@ module _ (n : ℕ) (s : List ℕ) (size : length s ≡ sheetBytes oldForm n) (ri
       let whole = eight-bytes n t (rw length-drop (omega arith)) (both .0) (both .1) in
       whole ∙ rw (getD-drop (2 * n) s 3 0, drop-drop 4 (2 * n) s, drop-drop 5 (2 * n) s)
 
-  itself : saidAgain oldForm n s ≡ s
-  itself =
-      ap (λ (r : List ℕ). r ++ trailerOf oldForm n (headAt oldForm s n) (lowestAt oldForm s n) (foundAt oldForm s n)) (sym (rows-cong (rowAt oldForm s) (λ k. rowBytes oldForm (codeIn (rowAt oldForm s k)) (numberIn oldForm (rowAt oldForm s k) 0 ∷ [])) n old-row))
-      ∙ ap (λ (t : List ℕ). rows (rowAt oldForm s) n ++ t) (sym old-trailer)
-      ∙ in-rows oldForm s n
-
   -- a number of one byte is carried there and back
   small : (x : ℕ) → x < 256 → carried oldForm (carried form x) ≡ x
   small x h = let all : x % 65536 ≡ x = mod-eq-of-lt (omega arith) in rw all (mod-eq-of-lt h)
@@ -157,8 +160,82 @@ module _ (n : ℕ) (s : List ℕ) (size : length s ≡ sheetBytes oldForm n) (ri
       (λ i h. small _ (rw (← add-one i, number-place oldForm s i 0 (omega arith)) (at-place (2 * i + 1))))
       (small _ (at-place (2 * n + 4)))
       (small _ (at-place (2 * n + 5)))
-      ∙ itself
+      ∙ itself oldForm n s old-row old-trailer
+
+-- A row of three bytes says itself,
+three-bytes : (r : List ℕ) → length r ≡ 3 → getD r 2 0 < 256 → r ≡ rowBytes form (codeIn r) (numberIn form r 0 ∷ [])
+three-bytes [] e l = absurd (omega arith)
+three-bytes (a ∷ []) e l = absurd (omega arith)
+three-bytes (a ∷ b ∷ []) e l = absurd (omega arith)
+three-bytes (a ∷ b ∷ c ∷ []) e l =
+    let high : b ≡ valueFrom 0 (b ∷ c ∷ []) / 256 = omega arith in
+    let low : c ≡ valueFrom 0 (b ∷ c ∷ []) % 256 = omega arith in
+    ap (λ (y : ℕ). a ∷ y ∷ c ∷ []) high ∙ ap (λ (y : ℕ). a ∷ valueFrom 0 (b ∷ c ∷ []) / 256 ∷ y ∷ []) low
+three-bytes (a ∷ b ∷ c ∷ d ∷ r) e l = absurd (omega arith)
+
+-- and so does a trailer of ten that has its shape and its mark.
+ten-bytes : (n : ℕ) (t : List ℕ) → length t ≡ 10 → getD t 5 0 < 256 → getD t 7 0 < 256 → same (shape form n) (take 3 t) ≡ true → same (form .mark) (drop 8 t) ≡ true
+    → t ≡ trailerOf form n (getD t 3 0) (valueFrom 0 (take 2 (drop 4 t))) (valueFrom 0 (take 2 (drop 6 t)))
+unfolding trailerOf
+ten-bytes n (a ∷ b ∷ c ∷ d ∷ e ∷ f ∷ g ∷ h ∷ i ∷ j ∷ []) l le lg s m =
+    let begins : shape form n ≡ a ∷ b ∷ c ∷ [] = same-true (shape form n) (a ∷ b ∷ c ∷ []) s in
+    let ends : form .mark ≡ i ∷ j ∷ [] = same-true (form .mark) (i ∷ j ∷ []) m in
+    let e1 : e ≡ valueFrom 0 (e ∷ f ∷ []) / 256 = omega arith in
+    let f1 : f ≡ valueFrom 0 (e ∷ f ∷ []) % 256 = omega arith in
+    let g1 : g ≡ valueFrom 0 (g ∷ h ∷ []) / 256 = omega arith in
+    let h1 : h ≡ valueFrom 0 (g ∷ h ∷ []) % 256 = omega arith in
+    ap (λ (u : List ℕ). u ++ (d ∷ e ∷ f ∷ g ∷ h ∷ i ∷ j ∷ [])) (sym begins)
+    ∙ ap (λ (u : List ℕ). shape form n ++ (d ∷ e ∷ f ∷ g ∷ h ∷ u)) (sym ends)
+    ∙ ap (λ (y : ℕ). shape form n ++ (d ∷ y ∷ f ∷ g ∷ h ∷ form .mark)) e1
+    ∙ ap (λ (y : ℕ). shape form n ++ (d ∷ valueFrom 0 (e ∷ f ∷ []) / 256 ∷ y ∷ g ∷ h ∷ form .mark)) f1
+    ∙ ap (λ (y : ℕ). shape form n ++ (d ∷ valueFrom 0 (e ∷ f ∷ []) / 256 ∷ valueFrom 0 (e ∷ f ∷ []) % 256 ∷ y ∷ h ∷ form .mark)) g1
+    ∙ ap (λ (y : ℕ). shape form n ++ (d ∷ valueFrom 0 (e ∷ f ∷ []) / 256 ∷ valueFrom 0 (e ∷ f ∷ []) % 256 ∷ valueFrom 0 (g ∷ h ∷ []) / 256 ∷ y ∷ form .mark)) h1
+ten-bytes n [] l le lg s m = absurd (omega arith)
+ten-bytes n (a ∷ []) l le lg s m = absurd (omega arith)
+ten-bytes n (a ∷ b ∷ []) l le lg s m = absurd (omega arith)
+ten-bytes n (a ∷ b ∷ c ∷ []) l le lg s m = absurd (omega arith)
+ten-bytes n (a ∷ b ∷ c ∷ d ∷ []) l le lg s m = absurd (omega arith)
+ten-bytes n (a ∷ b ∷ c ∷ d ∷ e ∷ []) l le lg s m = absurd (omega arith)
+ten-bytes n (a ∷ b ∷ c ∷ d ∷ e ∷ f ∷ []) l le lg s m = absurd (omega arith)
+ten-bytes n (a ∷ b ∷ c ∷ d ∷ e ∷ f ∷ g ∷ []) l le lg s m = absurd (omega arith)
+ten-bytes n (a ∷ b ∷ c ∷ d ∷ e ∷ f ∷ g ∷ h ∷ []) l le lg s m = absurd (omega arith)
+ten-bytes n (a ∷ b ∷ c ∷ d ∷ e ∷ f ∷ g ∷ h ∷ i ∷ []) l le lg s m = absurd (omega arith)
+ten-bytes n (a ∷ b ∷ c ∷ d ∷ e ∷ f ∷ g ∷ h ∷ i ∷ j ∷ k ∷ t) l le lg s m = absurd (omega arith)
+
+-- A sheet of our form for n stations, of bytes, whose numbers are all below 256: the old form can say it.
+module _ (n : ℕ) (s : List ℕ) (size : length s ≡ sheetBytes form n) (right : fitsForm form s n ≡ true) (byte : (i : ℕ) → getD s i 0 < 256)
+    (few : (i : ℕ) → i < n → numberIn form (rowAt form s (suc i)) 0 < 256) (few-lowest : lowestAt form s n < 256) (few-found : foundAt form s n < 256) where
+  our-row : (i : ℕ) → i < n → rowAt form s (suc i) ≡ rowBytes form (codeIn (rowAt form s (suc i))) (numberIn form (rowAt form s (suc i)) 0 ∷ [])
+  unfolding rowAt
+  our-row i h =
+      let e : suc i - 1 ≡ i = omega arith in
+      let rest = drop (3 * (suc i - 1)) s in
+      let last : getD (take 3 rest) 2 0 < 256 = rw (getD-take 3 rest 2 0 (omega arith), getD-drop (3 * (suc i - 1)) s 2 0) (byte (3 * (suc i - 1) + 2)) in
+      three-bytes (take 3 rest) (length-take-le 3 rest (rw (length-drop, e) (omega arith))) last
+
+  our-trailer : drop (3 * n) s ≡ trailerOf form n (headAt form s n) (lowestAt form s n) (foundAt form s n)
+  unfolding fitsForm headAt lowestAt foundAt
+  our-trailer =
+      let t = drop (3 * n) s in
+      let both = and-eq-true-iff (same (shape form n) (take 3 t)) (same (form .mark) (drop 8 t)) .0 right in
+      let five : getD t 5 0 < 256 = rw (getD-drop (3 * n) s 5 0) (byte (3 * n + 5)) in
+      let seven : getD t 7 0 < 256 = rw (getD-drop (3 * n) s 7 0) (byte (3 * n + 7)) in
+      let whole = ten-bytes n t (rw length-drop (omega arith)) five seven (both .0) (both .1) in
+      whole ∙ rw (getD-drop (3 * n) s 3 0, drop-drop 4 (3 * n) s, drop-drop 6 (3 * n) s)
+
+  -- a number below 256 is carried back and there
+  carried-again : (x : ℕ) → x < 256 → carried form (carried oldForm x) ≡ x
+  carried-again x h = let all : x % 256 ≡ x = mod-eq-of-lt h in rw all (mod-eq-of-lt (omega arith))
+
+  -- Turned back and there it is the sheet again.
+  pub back-and-there : turned oldForm form n (turned form oldForm n s) ≡ s
+  back-and-there =
+      said-again form oldForm (omega arith) refl n s
+      (λ i h. carried-again _ (few i h))
+      (carried-again _ few-lowest)
+      (carried-again _ few-found)
+      ∙ itself form n s our-row our-trailer
 
 -- The sheet judged from a list of up to 250 stations, turned back and there, is the sheet again.
-pub back-and-there : (file : List ℕ) → stations file ≤ oldMost → turned oldForm form (stations file) (turned form oldForm (stations file) (sheetOf file)) ≡ sheetOf file
-back-and-there file few = ap (λ (s : List ℕ). turned oldForm form (stations file) s) (right-back file few) ∙ right-forward file few
+pub judged-back-and-there : (file : List ℕ) → stations file ≤ oldMost → turned oldForm form (stations file) (turned form oldForm (stations file) (sheetOf file)) ≡ sheetOf file
+judged-back-and-there file few = ap (λ (s : List ℕ). turned oldForm form (stations file) s) (right-back file few) ∙ right-forward file few
