@@ -3,7 +3,7 @@ use crate::endings::answer;
 use distances::Height;
 use distances::Metres;
 use formats::Tenths;
-use header_judging::check_header;
+use header_reading::judging::check_header;
 use judging::check_station;
 use rewriting::changing::change_azimuth;
 use rewriting::changing::change_elevation;

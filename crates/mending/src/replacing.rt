@@ -5,7 +5,7 @@ use columns::texts::equal;
 use files::lengths::RECORD_LENGTH;
 use files::lengths::stations_in;
 use forms::readers::head_code;
-use header_judging::filed_header_code;
+use header_reading::judging::filed_header_code;
 use sheet::judging::judge_outcome;
 use sheet::rows::put_row;
 use sheet::trailers::fits_trailer;

@@ -12,7 +12,7 @@ use Rattle.columns.specs.Texts.{bytes, same}
 use Rattle.forms.specs.Counting.{rows}
 use Rattle.forms.specs.Forms.{Form, valueFrom, rowBytes, rowAt, codeIn, numberIn, shape, sheetBytes, trailerOf, headAt, lowestAt, foundAt, fitsForm}
 use Rattle.forms.specs.OwnForm.{form}
-use Rattle.forms.proofs.SameLaws.{same-true}
+use Rattle.columns.proofs.SameLaws.{same-true}
 use Rattle.forms.proofs.RowLaws.{rows-cong, row-kept}
 use Rattle.forms.proofs.FormLaws.{row-number, number-place, ended-row, ended-head, ended-lowest, ended-found}
 use Rattle.files.specs.Files.{stations}

@@ -1,7 +1,8 @@
 -- `files::lengths::record_in` meets its contract.
 use denote.Ref.{now}
 use Rattle.files.proofs.FileLaws.{record-past, record-last, record-whole}
-use Rattle.files.proofs.PieceLaws.{cut-at, offset-there, offset-past}
+use Rattle.files.proofs.PieceLaws.{offset-there, offset-past}
+use Rattle.basics.proofs.StandLaws.{cut-at}
 use native.Mathlib.Nat.{sub-self}
 use native.Mathlib.Omega.{arith}
 use borrow.Author.Needs.{needs}

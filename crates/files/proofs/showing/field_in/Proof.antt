@@ -2,7 +2,7 @@
 use mathlib.Core.Path.{refl}
 use Prim.Native.Nat.{_-_}
 use native.Mathlib.Nat.{add-sub-cancel-left}
-use Rattle.files.proofs.PieceLaws.{cut-at}
+use Rattle.basics.proofs.StandLaws.{cut-at}
 use borrow.Author.Needs.{needs}
 use Rattle.files.proofs.showing.field_in.Statement.{statement}
 use Rattle.files.proofs.showing.field_in.Tie as tie

@@ -7,7 +7,8 @@ use Rattle.files.proofs.FileLaws.{record-wide}
 use Rattle.basics.proofs.RefusalLaws.{went-on, stopped}
 use Rattle.files.proofs.PlaceLaws.{places-tile, place-inside, piece-there}
 use Rattle.files.proofs.ShowLaws.{shown-there, shown-field, shown-nothing}
-use Rattle.files.proofs.PieceLaws.{front-at, offset-refused, field-stands}
+use Rattle.files.proofs.PieceLaws.{offset-refused, field-stands}
+use Rattle.basics.proofs.StandLaws.{front-at}
 use borrow.Author.Needs.{needs}
 use Rattle.files.proofs.showing.show.Statement.{statement}
 use Rattle.files.proofs.showing.show.Tie as tie

@@ -1,4 +1,4 @@
--- `header_judging::check_header` meets its contract.
+-- `header_reading::judging::check_header` meets its contract.
 use denote.Ref.{now}
 use Rattle.basics.specs.declared.Outcome.the-variants as outcome
 use Rattle.basics.proofs.CallLaws.{length-ends, code-ends}

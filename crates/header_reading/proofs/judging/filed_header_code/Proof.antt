@@ -1,4 +1,4 @@
--- `header_judging::filed_header_code` meets its contract: the count is judged where the header breaks no rule of its own.
+-- `header_reading::judging::filed_header_code` meets its contract: the count is judged where the header breaks no rule of its own.
 use mathlib.Core.Path.{_≡_}
 use mathlib.Core.Bool.{cond}
 use mathlib.Core.List.{[], _∷_}

@@ -1,4 +1,4 @@
--- `header_judging::header_code` meets its contract: the second group is judged where the first breaks no rule.
+-- `header_reading::judging::header_code` meets its contract: the second group is judged where the first breaks no rule.
 use mathlib.Core.Path.{sym, _∙_}
 use denote.Ref.{now}
 use lib.ListN.{take, drop}

@@ -1,4 +1,4 @@
--- `header_judging::sender_code` meets its contract: each test of the code is a rule of the group.
+-- `header_reading::judging::sender_code` meets its contract: each test of the code is a rule of the group.
 use mathlib.Core.Path.{_∙_}
 use Rattle.header_reading.proofs.LetterLaws.{one-letter}
 use Rattle.header.specs.Places.{headerFields}
