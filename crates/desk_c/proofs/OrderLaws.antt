@@ -3,8 +3,8 @@ use mathlib.Core.Path.{_≡_, sym, ap, _∙_}
 use mathlib.Core.List.{List, [], _∷_}
 use Prim.Native.Nat.{ℕ}
 use Rattle.sheet.specs.Sheets.{sheetOf}
-use Rattle.mending.specs.Calls.{afterAll, replacedFile, replacedSheet}
-use Rattle.mending.proofs.EitherOrder.{either-order}
+use Rattle.replacing.specs.Calls.{afterAll, replacedFile, replacedSheet}
+use Rattle.replacing.proofs.EitherOrder.{either-order}
 use Rattle.desk_c.specs.Promises.{FilingReplaced}
 
 -- Two calls one after the other leave what a run of the two does.

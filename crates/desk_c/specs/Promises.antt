@@ -12,7 +12,7 @@ use Rattle.lists.specs.Calls.{recordListing, listedLength, listedRecord, lineFi
 use Rattle.header.specs.Calls.{readHeaderOutcome}
 use Rattle.files.specs.Calls.{showOutcome, shownOffset, shownLength}
 use Rattle.sheet.specs.Calls.{judgeOutcome, judgedInto}
-use Rattle.mending.specs.Calls.{replaceOutcome, replacedFile, replacedSheet, replacedRows}
+use Rattle.replacing.specs.Calls.{replaceOutcome, replacedFile, replacedSheet, replacedRows}
 use Rattle.forms.specs.Forms.{Form}
 use Rattle.turning.specs.Calls.{turnOutcome, turnedInto}
 use Rattle.desk_c.specs.Endings.{Answered, AnsweredLeaving}

@@ -35,7 +35,7 @@ use Rattle.forms.specs.Forms.{rowAt, badAt, trailerOf, closed, headAt, fitsForm
 use Rattle.sheet.specs.Sheets.{twinAt, rowOf, judgedSheet, sheetOf}
 use Rattle.mending.specs.Replacing.{touched, mendedRow, writes, rowsWritten}
 use Rattle.mending.specs.Replacing as replacing
-use Rattle.mending.specs.Calls.{replaceOutcome, replacedSheet, replacedRows}
+use Rattle.replacing.specs.Calls.{replaceOutcome, replacedSheet, replacedRows}
 use Rattle.basics.specs.Outcomes.{refusal, codeWith, ifDone, firstRefusal}
 use Rattle.station.specs.Calls.{readOutcome, readStation, writeOutcome, writtenStation, setOutcome, setStation}
 use Rattle.station.specs.Values.{emptyStation}

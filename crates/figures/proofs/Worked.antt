@@ -35,7 +35,7 @@ use Rattle.forms.specs.Forms.{rowAt, badAt, trailerOf, closed, headAt, lowestAt
 use Rattle.sheet.specs.Sheets.{twinAt, rowOf, judgedSheet, sheetOf}
 use Rattle.mending.specs.Replacing.{touched, mendedRow, writes, rowsWritten}
 use Rattle.mending.specs.Replacing as replacing
-use Rattle.mending.specs.Calls.{replaceOutcome, replacedSheet, replacedRows}
+use Rattle.replacing.specs.Calls.{replaceOutcome, replacedSheet, replacedRows}
 use Rattle.turning.specs.Turning.{turnedRow, turned}
 use Rattle.turning.specs.Calls.{turnOutcome, turnedInto}
 use Rattle.basics.specs.Outcomes.{refusal, codeWith, ifDone, firstRefusal}

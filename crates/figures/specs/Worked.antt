@@ -12,7 +12,7 @@ use Rattle.header.specs.Values.{headerOf}
 use Rattle.header.specs.Codes.{headerCode, filedHeaderCode}
 use Rattle.files.specs.Calls.{showOutcome, shownField}
 use Rattle.sheet.specs.Sheets.{sheetOf}
-use Rattle.mending.specs.Calls.{replacedSheet, replacedRows}
+use Rattle.replacing.specs.Calls.{replacedSheet, replacedRows}
 use Rattle.forms.specs.OwnForm.{form}
 use Rattle.turning.specs.OldForm.{oldForm}
 use Rattle.turning.specs.Calls.{turnOutcome, turnedInto}

@@ -1,3 +1,1 @@
 pub mod Replacing
-pub mod Calls
-pub mod Promises

@@ -1,3 +1,3 @@
-// Replacing a record, and mending the sheet beside it.
+// The rows of a sheet mended beside a record that is replaced.
 
-pub mod replacing;
+pub mod rows;

@@ -9,7 +9,7 @@ use Rattle.forms.specs.Counting.{rows}
 use Rattle.forms.specs.Forms.{Form, rowAt, closed}
 use Rattle.forms.proofs.RowLaws.{RowsWide, length-rows}
 use Rattle.forms.proofs.FormLaws.{rows-back}
-use Rattle.mending.proofs.LocalLaws.{Local, touchedBy, mended-by, header-rows}
+use Rattle.replacing.proofs.LocalLaws.{Local, touchedBy, mended-by, header-rows}
 
 -- A row that is written gets its value for the file; every other row keeps its bytes.
 abbrev pub mendedBy : Form → (List ℕ → List ℕ) → (List ℕ → ℕ → List ℕ) → List ℕ → List ℕ → ℕ → List ℕ → ℕ → List ℕ

@@ -1,4 +1,4 @@
--- `mending::replacing::mend_rows` meets its contract: so many rows are as they should be, and so many were written.
+-- `mending::rows::mend_rows` meets its contract: so many rows are as they should be, and so many were written.
 use denote.Ref.{now}
 use mathlib.Core.Bool.{true, false}
 use mathlib.Core.Path.{_≡_, _∙_}
@@ -12,8 +12,8 @@ use Rattle.mending.proofs.RowsMended.{mended-hit, mended-miss}
 use native.Mathlib.Omega.{arith}
 use Rattle.forms.specs.OwnForm.{rowWidth}
 use borrow.Author.Needs.{needs}
-use Rattle.mending.proofs.replacing.mend_rows.Statement.{statement}
-use Rattle.mending.proofs.replacing.mend_rows.Tie as tie
+use Rattle.mending.proofs.rows.mend_rows.Statement.{statement}
+use Rattle.mending.proofs.rows.mend_rows.Tie as tie
 
 abbrev Inv-loop : tie.InvT-loop
 Inv-loop file sheet₀ n k old written₀ i₀ sheet written i =

@@ -1,4 +1,4 @@
--- `mending::replacing::replace` meets its contract: refused, a header, or a station.
+-- `replacing::records::replace` meets its contract: refused, a header, or a station.
 use denote.Ref.{now}
 use mathlib.Core.Path.{_≡_, sym, ap, _∙_}
 use mathlib.Core.Bool.{true}
@@ -7,15 +7,15 @@ use borrow.Author.Tests.{not-true}
 use Rattle.files.specs.Files.{withRecord, stations}
 use Rattle.basics.proofs.RefusalLaws.{done, went-on}
 use Rattle.files.proofs.LengthLaws.{positive}
 use Rattle.mending.specs.Replacing.{mendedSheet, rowsWritten}
 use Rattle.mending.proofs.RowsMended.{header-none}
-use Rattle.mending.specs.Calls.{replaceOutcome}
+use Rattle.replacing.specs.Calls.{replaceOutcome}
 use Rattle.sheet.proofs.JudgeLaws.{sized-at}
-use Rattle.mending.proofs.CallLaws.{allowed, replace-refused, replace-done}
+use Rattle.replacing.proofs.CallLaws.{allowed, replace-refused, replace-done}
 use native.Mathlib.Omega.{arith}
 use borrow.Author.Needs.{needs}
-use Rattle.mending.proofs.replacing.replace.Statement.{statement}
-use Rattle.mending.proofs.replacing.replace.Tie as tie
+use Rattle.replacing.proofs.records.replace.Statement.{statement}
+use Rattle.replacing.proofs.records.replace.Tie as tie
 
 replace-outcome-requires : tie.Need-replace-outcome-requires
 replace-outcome-requires c κs = search needs

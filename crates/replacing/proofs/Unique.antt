@@ -2,8 +2,8 @@
 use mathlib.Core.Path.{_≡_, sym, _∙_}
 use mathlib.Core.List.{List}
 use Prim.Native.Nat.{ℕ}
-use Rattle.mending.specs.Promises.{RecordReplaced}
-use Rattle.mending.specs.declared.replacing.Replaced.{Replaced}
+use Rattle.replacing.specs.Promises.{RecordReplaced}
+use Rattle.replacing.specs.declared.records.Replaced.{Replaced}
 
 -- Two answers of `replace` to one file, one sheet, one number and one record are equal, and so are the files and the sheets that they leave.
 pub one-replacing : (file sheet : List ℕ) (k : ℕ) (r : List ℕ) (a b : Replaced) (f g x y : List ℕ)

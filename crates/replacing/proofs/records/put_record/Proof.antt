@@ -1,4 +1,4 @@
--- `mending::replacing::put_record` meets its contract: 219 bytes copied into their own place.
+-- `replacing::records::put_record` meets its contract: 219 bytes copied into their own place.
 use denote.Ref.{now}
 use mathlib.Core.Path.{_≡_, _∙_}
 use Prim.Native.Nat.{_+_, _-_, _*_}
@@ -9,8 +9,8 @@ use Rattle.files.specs.Files.{withRecord}
 use Rattle.forms.proofs.CopyLaws.{copy-all}
 use native.Mathlib.Omega.{arith}
 use borrow.Author.Needs.{needs}
-use Rattle.mending.proofs.replacing.put_record.Statement.{statement}
-use Rattle.mending.proofs.replacing.put_record.Tie as tie
+use Rattle.replacing.proofs.records.put_record.Statement.{statement}
+use Rattle.replacing.proofs.records.put_record.Tie as tie
 
 mul-start : tie.Need-mul-start
 mul-start c = search needs

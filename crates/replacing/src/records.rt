@@ -1,68 +1,29 @@
 // Replacing a record, and mending the sheet.
 use basics::Outcome;
 use basics::outcomes::is_done;
-use columns::texts::equal;
 use files::lengths::RECORD_LENGTH;
 use files::lengths::stations_in;
 use forms::readers::head_code;
 use header_reading::judging::filed_header_code;
+use mending::rows::mend_rows;
 use sheet::judging::judge_outcome;
-use sheet::rows::put_row;
 use sheet::trailers::fits_trailer;
 use sheet::trailers::put_trailer;
 use stations::reference;
 ghost use mathlib.Core.Path.{_≡_};
-ghost use mathlib.Core.List.{_++_};
 ghost use Prim.Native.Nat.{_+_, _*_, _≤_};
-ghost use lib.ListN.{length, drop};
+ghost use lib.ListN.{length};
 ghost use Rattle.files.specs.Files.{withRecord};
-ghost use Rattle.forms.specs.Counting.{rows, count};
-ghost use Rattle.mending.specs.Replacing.{touched, mendedRow, mendedSheet, rowsWritten};
-ghost use Rattle.mending.specs.Calls.{replaceOutcome};
+ghost use Rattle.mending.specs.Replacing.{mendedSheet, rowsWritten};
+ghost use Rattle.replacing.specs.Calls.{replaceOutcome};
 ghost use Rattle.sheet.specs.Promises.{Sized};
-ghost use Rattle.mending.specs.Promises.{RecordReplaced, StillJudged};
+ghost use Rattle.replacing.specs.Promises.{RecordReplaced, StillJudged};
 ghost use Rattle.basics.specs.Fields.{recordLength};
-ghost use Rattle.forms.specs.OwnForm.{rowWidth};
 
 // How a replacement ended, and how many rows it wrote.
 pub struct Replaced {
     pub outcome: Outcome,
     pub rows: usize,
-}
-
-// Whether row j is written: it is row k, or a later one that bears the old or the new 13X of k.
-fn touches(file: &[u8], old: &[u8], k: usize, j: usize) -> bool
-    requires { ⌜ (recordLength * k + recordLength ≤ length (now file)) × (recordLength * j + recordLength ≤ length (now file)) ⌝ }
-    ensures { λ r. ⌜ r ≡ touched (now (file .entry)) (now (old .entry)) k j ⌝ }
-{
-    if k > j {
-        return false;
-    }
-    let mine = reference(file, j);
-    if equal(mine, old) {
-        return true;
-    }
-    equal(mine, reference(file, k))
-}
-
-// Writes the rows that the replacement of record k touches, and answers how many.
-fn mend_rows(file: &[u8], sheet: &mut [u8], n: usize, k: usize, old: &[u8]) -> usize
-    requires { ⌜ Sized (now file) (now sheet) n ⌝ }
-    requires { ⌜ k ≤ n ⌝ }
-    ensures { λ r. ⌜ r ≡ count (touched (now (file .entry)) (now (old .entry)) k) n ⌝ }
-    ensures { λ _. ⌜ now (sheet .exit) ≡ rows (mendedRow (now (file .entry)) (now (old .entry)) k (now (sheet .entry))) n ++ drop (rowWidth * n) (now (sheet .entry)) ⌝ }
-{
-    let mut written: usize = 0;
-    let mut i = 0;
-    while i < n {
-        let j = i + 1;
-        if touches(file, old, k, j) {
-            put_row(sheet, file, i);
-            written += 1;
-        }
-        i = j;
-    }
-    written
 }
 
 // Puts a record in the place of record k.

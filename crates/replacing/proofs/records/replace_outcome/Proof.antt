@@ -1,4 +1,4 @@
--- `mending::replacing::replace_outcome` meets its contract: what judging asks, then trailer, number and record.
+-- `replacing::records::replace_outcome` meets its contract: what judging asks, then trailer, number and record.
 use denote.Ref.{now}
 use mathlib.Core.Path.{_≡_, sym, ap, _∙_}
 use mathlib.Core.Bool.{true, false, not}
@@ -10,14 +10,14 @@ use Rattle.basics.specs.declared.Outcome.the-variants as outcome
 use Rattle.basics.proofs.RefusalLaws.{done, went-on, stopped, passes, stops, none-left, ended-there}
 use Rattle.files.specs.Files.{stations}
 use Rattle.sheet.specs.Calls.{judgeTests, judgeOutcome}
-use Rattle.mending.specs.Calls.{replaceOutcome}
+use Rattle.replacing.specs.Calls.{replaceOutcome}
 use Rattle.sheet.proofs.JudgeLaws.{judge-sized-up}
-use Rattle.mending.proofs.CallLaws.{further, goes-further}
+use Rattle.replacing.proofs.CallLaws.{further, goes-further}
 use native.Mathlib.Omega.{arith}
 use Rattle.forms.specs.OwnForm.{sheetLength, trailerFits}
 use borrow.Author.Needs.{needs}
-use Rattle.mending.proofs.replacing.replace_outcome.Statement.{statement}
-use Rattle.mending.proofs.replacing.replace_outcome.Tie as tie
+use Rattle.replacing.proofs.records.replace_outcome.Statement.{statement}
+use Rattle.replacing.proofs.records.replace_outcome.Tie as tie
 
 judge-outcome-requires : tie.Need-judge-outcome-requires
 judge-outcome-requires c κs = search needs

@@ -1,4 +1,4 @@
--- `mending::replacing::replace_station` meets its contract: the old reference is kept, the record put in, the rows mended, the trailer written.
+-- `replacing::records::replace_station` meets its contract: the old reference is kept, the record put in, the rows mended, the trailer written.
 use denote.Ref.{now}
 use mathlib.Core.Path.{_≡_, sym, ap, _∙_}
 use Prim.Native.Nat.{_≤_}
@@ -7,11 +7,11 @@ use lib.ListN.{length}
 use Rattle.stations.specs.Stations.{referenceAt}
 use Rattle.forms.proofs.CopyLaws.{copy-all}
 use Rattle.stations.proofs.StationLaws.{reference-wide}
 use Rattle.mending.proofs.RowsMended.{station-rows, station-sheet}
 use native.Mathlib.Omega.{arith}
 use borrow.Author.Needs.{needs}
-use Rattle.mending.proofs.replacing.replace_station.Statement.{statement}
-use Rattle.mending.proofs.replacing.replace_station.Tie as tie
+use Rattle.replacing.proofs.records.replace_station.Statement.{statement}
+use Rattle.replacing.proofs.records.replace_station.Tie as tie
 
 reference-requires : tie.Need-reference-requires
 reference-requires c κs = search needs

@@ -13,10 +13,10 @@ use Rattle.files.specs.Calls.{fileTests, numberTest}
 use Rattle.files.proofs.PutLaws.{Put, put-length, put-standing, put-commutes, put-absorbs}
 use Rattle.forms.specs.OwnForm.{sheetLength}
 use Rattle.sheet.specs.Sheets.{judgedSheet, sheetOf}
-use Rattle.mending.specs.Calls.{replaceOutcome, replacedFile, replacedSheet, afterAll}
+use Rattle.replacing.specs.Calls.{replaceOutcome, replacedFile, replacedSheet, afterAll}
 use Rattle.sheet.proofs.SheetLaws.{judged-length, judged-fits}
-use Rattle.mending.proofs.CallLaws.{allowed}
-use Rattle.mending.proofs.Demand3.{replaced-judged, after-any-run}
+use Rattle.replacing.proofs.CallLaws.{allowed}
+use Rattle.replacing.proofs.Demand3.{replaced-judged, after-any-run}
 
 -- How replacing ends where the sheet is the one judged from the file: by the file's length, the number and the record's length alone.
 abbrev pub judgedEnd : List ℕ → ℕ → List ℕ → Outcome

@@ -1,13 +1,13 @@
--- `mending::replacing::replace_header` meets its contract: the record, then the trailer.
+-- `replacing::records::replace_header` meets its contract: the record, then the trailer.
 use mathlib.Core.Path.{ap, _∙_}
 use denote.Ref.{now}
 use lib.ListN.{take}
 use Prim.Native.Nat.{ℕ, _*_}
 use Rattle.forms.specs.OwnForm.{withTrailer, rowWidth}
 use Rattle.mending.specs.Replacing.{mendedSheet}
 use borrow.Author.Needs.{needs}
-use Rattle.mending.proofs.replacing.replace_header.Statement.{statement}
-use Rattle.mending.proofs.replacing.replace_header.Tie as tie
+use Rattle.replacing.proofs.records.replace_header.Statement.{statement}
+use Rattle.replacing.proofs.records.replace_header.Tie as tie
 
 filed-header-code-requires : tie.Need-filed-header-code-requires
 filed-header-code-requires c κs = search needs

@@ -1,4 +1,4 @@
--- `mending::replacing::touches` meets its contract: the number, the old reference, the new one.
+-- `mending::rows::touches` meets its contract: the number, the old reference, the new one.
 use denote.Ref.{now}
 use mathlib.Core.Bool.{true, false}
 use mathlib.Core.Path.{_≡_}
@@ -7,8 +7,8 @@ use Rattle.columns.specs.Texts.{same}
 use Rattle.stations.specs.Stations.{referenceAt}
 use Rattle.mending.specs.Replacing.{touched}
 use borrow.Author.Needs.{needs}
-use Rattle.mending.proofs.replacing.touches.Statement.{statement}
-use Rattle.mending.proofs.replacing.touches.Tie as tie
+use Rattle.mending.proofs.rows.touches.Statement.{statement}
+use Rattle.mending.proofs.rows.touches.Tie as tie
 
 returns : tie.Need-returns
 unfolding touched

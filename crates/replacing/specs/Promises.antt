@@ -3,8 +3,8 @@ use Prim.Native.Nat.{ℕ}
 use mathlib.Core.Path.{_≡_}
 use mathlib.Core.List.{List}
 use Rattle.sheet.specs.Sheets.{sheetOf}
-use Rattle.mending.specs.Calls.{replaceOutcome, replacedFile, replacedSheet, replacedRows}
-use Rattle.mending.specs.declared.replacing.Replaced.{Replaced}
+use Rattle.replacing.specs.Calls.{replaceOutcome, replacedFile, replacedSheet, replacedRows}
+use Rattle.replacing.specs.declared.records.Replaced.{Replaced}
 
 -- `replace`: how it ends, how many rows it wrote, and the file and the sheet that it leaves.
 abbrev pub RecordReplaced : List ℕ → List ℕ → ℕ → List ℕ → Replaced → List ℕ → List ℕ → Type 0

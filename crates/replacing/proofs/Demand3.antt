@@ -17,13 +17,13 @@ use Rattle.stations.specs.Stations.{referenceAt}
 use Rattle.forms.specs.OwnForm.{form, rowWidth, rowIn, bad, headIn, lowestIn, foundIn}
 use Rattle.sheet.specs.Sheets.{rowOf, sheetOf}
 use Rattle.forms.specs.Forms.{rowAt, closed}
 use Rattle.mending.specs.Replacing.{mendedRow, mendedSheet, writes, rowsWritten}
-use Rattle.mending.specs.Calls.{replaceOutcome, replacedFile, replacedSheet, replacedRows, afterAll}
+use Rattle.replacing.specs.Calls.{replaceOutcome, replacedFile, replacedSheet, replacedRows, afterAll}
 use Rattle.forms.proofs.CountLaws.{those, count-those}
 use Rattle.forms.proofs.RowLaws.{RowsWide, length-rows, row-back}
 use Rattle.forms.proofs.FormLaws.{head-back, rows-back, lowest-whole, found-whole}
 use Rattle.mending.proofs.RowsMended.{mended-wide, header-none}
-use Rattle.mending.proofs.CallLaws.{allowed, still-judged}
+use Rattle.replacing.proofs.CallLaws.{allowed, still-judged}
 
 -- A replacement, refused or not, takes the sheet judged from a file to the sheet judged from the file that it leaves,
 pub replaced-judged : (file : List ℕ) (k : ℕ) (r : List ℕ) → replacedSheet file (sheetOf file) k r ≡ sheetOf (replacedFile file (sheetOf file) k r)

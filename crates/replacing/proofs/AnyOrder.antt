@@ -14,9 +14,9 @@ use Rattle.files.specs.Calls.{fileTests, numberTest}
 use Rattle.files.proofs.LengthLaws.{length-passed, whole-records}
 use Rattle.files.proofs.PutLaws.{same-records, put-length, put-record}
 use Rattle.sheet.specs.Sheets.{sheetOf}
-use Rattle.mending.specs.Calls.{afterAll}
-use Rattle.mending.proofs.Demand3.{replaced-judged}
-use Rattle.mending.proofs.EitherOrder.{taken, left, taken-so, put-so, taken-by-length, by-file}
+use Rattle.replacing.specs.Calls.{afterAll}
+use Rattle.replacing.proofs.Demand3.{replaced-judged}
+use Rattle.replacing.proofs.EitherOrder.{taken, left, taken-so, put-so, taken-by-length, by-file}
 
 -- A call: a record's number and the record that is to stand there.
 abbrev pub Call : Type 0

@@ -17,10 +17,10 @@ use Rattle.sheet.specs.Sheets.{judgedSheet, sheetOf}
 use Rattle.sheet.specs.Calls.{judgeTests, judgeOutcome}
 use Rattle.sheet.specs.Promises.{Sized}
 use Rattle.sheet.proofs.JudgeLaws.{both-sized, judge-passed}
 use Rattle.mending.specs.Replacing.{mendedSheet, rowsWritten}
-use Rattle.mending.specs.Calls.{trailerTest, replaceOutcome, replacedFile, replacedSheet, replacedRows}
-use Rattle.mending.specs.Promises.{RecordReplaced, StillJudged}
-use Rattle.mending.proofs.MendLaws.{mended-sheet}
+use Rattle.replacing.specs.Calls.{trailerTest, replaceOutcome, replacedFile, replacedSheet, replacedRows}
+use Rattle.replacing.specs.Promises.{RecordReplaced, StillJudged}
+use Rattle.replacing.proofs.MendLaws.{mended-sheet}
 
 -- a judged sheet, mended, is judged, with as many stations as before
 pub still-judged : (file : List ℕ) (k : ℕ) (r : List ℕ) (n : ℕ) → length file ≡ 219 * n + 219 → k ≤ n → length r ≡ 219 → n ≡ stations file

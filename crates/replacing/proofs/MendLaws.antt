@@ -16,9 +16,9 @@ use Rattle.stations.specs.Stations.{codeAt, referenceAt}
 use Rattle.forms.specs.OwnForm.{form, rowWidth, withTrailer}
 use Rattle.sheet.specs.Sheets.{twinAt, rowOf, judgedSheet}
 use Rattle.forms.specs.Forms.{rowBytes}
 use Rattle.mending.specs.Replacing.{touched, mendedRow, mendedSheet}
-use Rattle.mending.proofs.LocalLaws.{Local, own-local, lowest-local, both-local, kept-record}
-use Rattle.mending.proofs.MendForm.{rows-mended, rows-under}
+use Rattle.replacing.proofs.LocalLaws.{Local, own-local, lowest-local, both-local, kept-record}
+use Rattle.replacing.proofs.MendForm.{rows-mended, rows-under}
 use Rattle.sheet.proofs.SheetLaws.{rows-wide, judged-head}
 
 -- the key by which rows hang together: 13X

@@ -1,0 +1,3 @@
+// Replacing a record, and mending the sheet beside it.
+
+pub mod records;
