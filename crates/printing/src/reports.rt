@@ -15,7 +15,7 @@ use forms::readers::is_bad;
 use forms::readers::row_code;
 use forms::readers::row_twin;
 use sheet::judging::LONGEST_SHEET;
-use sheet::judging::judge;
+use sheet::judging::judge_sized;
 ghost use mathlib.Core.Path.{_≡_};
 ghost use mathlib.Core.Bool.{true};
 ghost use Prim.Native.Nat.{_+_, _*_, _≤_};
@@ -77,7 +77,7 @@ fn put_judged(out: &mut [u8], file: &[u8], sheet: &mut [u8], n: usize) -> usize
     requires { ⌜ eqb (refusal (lengthOutcome (now file))) 0 ≡ true ⌝ }
     ensures { λ r. ⌜ Appended (now (out .entry)) 0 (sheetReport (sheetOf (now (file .entry))) n) (now (out .exit)) r ⌝ }
 {
-    judge(file, sheet);
+    judge_sized(file, sheet, n);
     put_sheet(out, sheet, n)
 }
 

@@ -36,7 +36,7 @@ fn put_rows(file: &[u8], sheet: &mut [u8], n: usize)
 }
 
 // Writes the sheet of a file of n stations.
-fn judge_sized(file: &[u8], sheet: &mut [u8], n: usize)
+pub fn judge_sized(file: &[u8], sheet: &mut [u8], n: usize)
     requires { ⌜ Sized (now file) (now sheet) n ⌝ }
     ensures { λ _. ⌜ now (sheet .exit) ≡ judgedSheet (now (file .entry)) n ⌝ }
 {

@@ -1,13 +1,16 @@
 -- `printing::reports::put_judged` meets its contract: the sheet that is judged is the file's, and its trailer has the number of its bad rows.
 use denote.Ref.{now}
-use Rattle.printing.proofs.SheetLaws.{judged-lines}
+use Rattle.printing.proofs.SheetLaws.{sized-so, judged-lines}
 use Rattle.printing.proofs.ReportLaws.{few}
 use borrow.Author.Needs.{needs}
 use Rattle.printing.proofs.reports.put_judged.Statement.{statement}
 use Rattle.printing.proofs.reports.put_judged.Tie as tie
 
-judge-requires : tie.Need-judge-requires
-judge-requires c κs = search needs
+judge-sized-requires : tie.Need-judge-sized-requires
+judge-sized-requires c κs =
+    let start = c .before .before .before .before in
+    let a = start .args in
+    sized-so (now (a .file)) (now (a .sheet)) (a .n) (start .pre .1) (start .pre .0 .0) (start .pre .0 .1)
 
 put-sheet-requires : tie.Need-put-sheet-requires
 put-sheet-requires c κs =
@@ -24,8 +27,8 @@ returns : tie.Need-returns
 returns c =
     let start = c .before .before .before .before .before .before .before .before .before .before .before .before in
     let a = start .args in
-    rw (← judged-lines (now (a .file)) (now (a .sheet)) _ (a .n) (start .pre .1) (start .pre .0 .0) (start .pre .0 .1) (c .before .before .before .before .before .before .before .judge .ensures .1)) (c .before .before .put-sheet .ensures)
+    rw (← judged-lines (now (a .file)) _ (a .n) (start .pre .0 .0) (c .before .before .before .before .before .before .before .judge-sized .ensures)) (c .before .before .put-sheet .ensures)
 
 pub put-judged-spec : {M : Type 1} → statement M
 put-judged-spec =
-    tie.close (tie.spec judge-requires put-sheet-requires same-length same-length-2 returns)
+    tie.close (tie.spec judge-sized-requires put-sheet-requires same-length same-length-2 returns)
