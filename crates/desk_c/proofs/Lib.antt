@@ -1,4 +1,4 @@
-pub mod EndingLaws
+pub mod StatedLaws
 pub mod Unique
 pub mod ShownLaws
 pub mod ReasonLaws

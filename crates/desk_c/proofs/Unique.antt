@@ -8,12 +8,12 @@ use Rattle.station.specs.Calls.{readOutcome}
 use Rattle.station.specs.Setting.{withPower, withAzimuth, withElevation, withHeight, withGround}
 use Rattle.station.specs.declared.Station.{Station}
 use Rattle.header.specs.Calls.{readHeaderOutcome}
-use Rattle.desk_c.specs.Endings.{Answered, AnsweredLeaving}
+use Rattle.answers.specs.Endings.{Answered, AnsweredLeaving}
 use Rattle.rewriting.specs.Records.{respellOutcome, respelledStation, respellHeaderOutcome, respelledHeader, changeOutcome, changedRecord}
 use Rattle.desk_c.specs.Records.{tenthsStated, heightStated}
 use Rattle.forms.specs.Forms.{Form}
 use Rattle.desk_c.specs.Promises.{StationCoded, HeaderCoded, StationRespelled, HeaderRespelled, RecordChanged, PowerChanged, AzimuthChanged, ElevationChanged, HeightChanged, GroundChanged, FilingJudged, FilingReplaced, FilingTurned, FieldLocated, RecordLineOut, LineRecordIn}
-use Rattle.desk_c.specs.Rules.{RulesNumbered}
+use Rattle.answers.specs.Rules.{RulesNumbered}
 
 -- One outcome has one number and one code,
 pub one-answer : (o : Outcome) (a b c d : ℕ) → Answered o a c → Answered o b d → (a ≡ b) × (c ≡ d)

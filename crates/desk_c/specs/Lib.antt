@@ -1,5 +1,3 @@
-pub mod Endings
 pub mod Records
 pub mod Reasons
 pub mod Promises
-pub mod Rules

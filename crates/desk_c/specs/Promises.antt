@@ -15,7 +15,7 @@ use Rattle.sheet.specs.Calls.{judgeOutcome, judgedInto}
 use Rattle.replacing.specs.Calls.{replaceOutcome, replacedFile, replacedSheet, replacedRows}
 use Rattle.forms.specs.Forms.{Form}
 use Rattle.turning.specs.Calls.{turnOutcome, turnedInto}
-use Rattle.desk_c.specs.Endings.{Answered, AnsweredLeaving}
+use Rattle.answers.specs.Endings.{Answered, AnsweredLeaving}
 use Rattle.rewriting.specs.Records.{respellOutcome, respelledStation, respellHeaderOutcome, respelledHeader, changeOutcome, changedRecord}
 use Rattle.desk_c.specs.Records.{tenthsStated, heightStated}
 

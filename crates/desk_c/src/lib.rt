@@ -1,5 +1,4 @@
 // The library for callers in C and Rust: functions on numbers and lent bytes, under names with the prefix `desk_`.
-mod endings;
 pub mod listing;
 pub mod reasons;
 pub mod records;

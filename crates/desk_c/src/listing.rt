@@ -1,5 +1,5 @@
 // The calls on lines of a semicolon list: a record as a line, and a line as a record.
-use crate::endings::answer;
+use answers::answer;
 use lists::records::line_to_record;
 use lists::records::record_to_line;
 ghost use Rattle.desk_c.specs.Promises.{RecordLineOut, LineRecordIn};

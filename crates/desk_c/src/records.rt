@@ -1,5 +1,5 @@
 // The calls on single records: judged, written in the one spelling, and changed in one value.
-use crate::endings::answer;
+use answers::answer;
 use distances::Height;
 use distances::Metres;
 use formats::Tenths;

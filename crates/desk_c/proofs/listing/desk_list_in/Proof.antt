@@ -1,5 +1,5 @@
 -- `desk_c::listing::desk_list_in` meets its contract.
-use Rattle.desk_c.proofs.EndingLaws.{answered}
+use Rattle.answers.proofs.EndingLaws.{answered}
 use borrow.Author.Needs.{needs}
 use Rattle.desk_c.proofs.listing.desk_list_in.Statement.{statement}
 use Rattle.desk_c.proofs.listing.desk_list_in.Tie as tie

@@ -1,5 +1,5 @@
 -- `desk_c::records::desk_header_code` meets its contract.
-use Rattle.desk_c.proofs.EndingLaws.{answered}
+use Rattle.answers.proofs.EndingLaws.{answered}
 use borrow.Author.Needs.{needs}
 use Rattle.desk_c.proofs.records.desk_header_code.Statement.{statement}
 use Rattle.desk_c.proofs.records.desk_header_code.Tie as tie

@@ -1,5 +1,5 @@
 -- `desk_c::records::desk_respell_station` meets its contract.
-use Rattle.desk_c.proofs.EndingLaws.{answered-leaving}
+use Rattle.answers.proofs.EndingLaws.{answered-leaving}
 use borrow.Author.Needs.{needs}
 use Rattle.desk_c.proofs.records.desk_respell_station.Statement.{statement}
 use Rattle.desk_c.proofs.records.desk_respell_station.Tie as tie

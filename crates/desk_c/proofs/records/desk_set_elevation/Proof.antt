@@ -2,7 +2,8 @@
 use mir.Facts.{toZ-ofZ}
 use denote.Ref.{now}
 use Rattle.station.specs.Setting.{withElevation}
-use Rattle.desk_c.proofs.EndingLaws.{answered-leaving, value-stated}
+use Rattle.answers.proofs.EndingLaws.{answered-leaving}
+use Rattle.desk_c.proofs.StatedLaws.{value-stated}
 use borrow.Author.Needs.{needs}
 use Rattle.desk_c.proofs.records.desk_set_elevation.Statement.{statement}
 use Rattle.desk_c.proofs.records.desk_set_elevation.Tie as tie

@@ -1,6 +1,6 @@
 -- `desk_c::records::desk_set_ground` meets its contract.
 use mir.Facts.{toZ-ofZ}
-use Rattle.desk_c.proofs.EndingLaws.{answered-leaving}
+use Rattle.answers.proofs.EndingLaws.{answered-leaving}
 use borrow.Author.Needs.{needs}
 use Rattle.desk_c.proofs.records.desk_set_ground.Statement.{statement}
 use Rattle.desk_c.proofs.records.desk_set_ground.Tie as tie

@@ -2,7 +2,8 @@
 use mir.Facts.{toZ-ofZ}
 use denote.Ref.{now}
 use Rattle.station.specs.Setting.{withHeight}
-use Rattle.desk_c.proofs.EndingLaws.{answered-leaving, value-stated}
+use Rattle.answers.proofs.EndingLaws.{answered-leaving}
+use Rattle.desk_c.proofs.StatedLaws.{value-stated}
 use borrow.Author.Needs.{needs}
 use Rattle.desk_c.proofs.records.desk_set_height.Statement.{statement}
 use Rattle.desk_c.proofs.records.desk_set_height.Tie as tie

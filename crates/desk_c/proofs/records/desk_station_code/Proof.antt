@@ -1,5 +1,5 @@
 -- `desk_c::records::desk_station_code` meets its contract.
-use Rattle.desk_c.proofs.EndingLaws.{answered}
+use Rattle.answers.proofs.EndingLaws.{answered}
 use borrow.Author.Needs.{needs}
 use Rattle.desk_c.proofs.records.desk_station_code.Statement.{statement}
 use Rattle.desk_c.proofs.records.desk_station_code.Tie as tie
