@@ -19,15 +19,13 @@ pub fn row_bytes(code: u8, number: u16) -> [u8; ROW_WIDTH]
     [code, (number / 256) as u8, (number % 256) as u8]
 }
 
-// Writes station k's row into the bytes that it is lent.
-fn put_bytes(row: &mut [u8], file: &[u8], k: usize)
-    requires { ⌜ length (now row) ≡ rowWidth ⌝ }
+// Station k's row.
+pub fn station_row(file: &[u8], k: usize) -> [u8; ROW_WIDTH]
     requires { ⌜ recordLength * k + recordLength ≤ length (now file) ⌝ }
     requires { ⌜ (1 ≤ k) × (k ≤ mostStations) ⌝ }
-    ensures { λ _. ⌜ now (row .exit) ≡ rowOf (now (file .entry)) k ⌝ }
+    ensures { λ r. ⌜ r ≡ rowOf (now (file .entry)) k ⌝ }
 {
-    let held = row_bytes(code(file, k), twin(file, k));
-    bytes::copy(&held, row);
+    row_bytes(code(file, k), twin(file, k))
 }
 
 // Writes row i + 1 into its own bytes of the sheet.
@@ -35,7 +33,8 @@ pub fn put_row(sheet: &mut [u8], file: &[u8], i: usize)
     requires { ⌜ (i + 1 ≤ mostStations) × (rowWidth * i + rowWidth ≤ length (now sheet)) × (recordLength * (i + 1) + recordLength ≤ length (now file)) ⌝ }
     ensures { λ _. ⌜ now (sheet .exit) ≡ take (rowWidth * i) (now (sheet .entry)) ++ (rowOf (now (file .entry)) (i + 1) ++ drop (rowWidth * i + rowWidth) (now (sheet .entry))) ⌝ }
 {
+    let held = station_row(file, i + 1);
     let start = ROW_WIDTH * i;
     let end = start + ROW_WIDTH;
-    put_bytes(&mut sheet[start..end], file, i + 1);
+    bytes::copy(&held, &mut sheet[start..end]);
 }

@@ -68,15 +68,22 @@ pub fn trailer_bytes(n: usize, head: u8, lowest: u16, found: u16) -> [u8; TRAILE
     ]
 }
 
-// Writes the trailer of the n rows that stand, with the header's code, behind them.
+// The trailer of the n rows that stand, with the header's code.
+pub fn standing_trailer(sheet: &[u8], n: usize, head: u8) -> [u8; TRAILER_LENGTH]
+    requires { ⌜ (n ≤ mostStations) × (rowWidth * n ≤ length (now sheet)) ⌝ }
+    ensures { λ r. ⌜ r ≡ trailerOf form n head (first (bad (take (rowWidth * n) (now (sheet .entry)))) n) (count (bad (take (rowWidth * n) (now (sheet .entry)))) n) ⌝ }
+{
+    let rows = &sheet[..ROW_WIDTH * n];
+    trailer_bytes(n, head, lowest_bad(rows, n), bad_rows(rows, n))
+}
+
+// Writes the trailer of the n rows that stand behind them.
 pub fn put_trailer(sheet: &mut [u8], n: usize, head: u8)
     requires { ⌜ (n ≤ mostStations) × (length (now sheet) ≡ sheetLength n) ⌝ }
     ensures { λ _. ⌜ now (sheet .exit) ≡ withTrailer n head (take (rowWidth * n) (now (sheet .entry))) ⌝ }
 {
+    let trailer = standing_trailer(sheet, n, head);
     let end = ROW_WIDTH * n;
-    let lowest = lowest_bad(&sheet[..end], n);
-    let found = bad_rows(&sheet[..end], n);
-    let trailer = trailer_bytes(n, head, lowest, found);
     bytes::copy(&trailer, &mut sheet[end..]);
 }
 

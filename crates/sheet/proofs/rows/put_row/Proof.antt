@@ -1,13 +1,24 @@
 -- `sheet::rows::put_row` meets its contract: the row stands in its own bytes, and the others are kept.
 use denote.Ref.{now}
-use mathlib.Core.Path.{_≡_}
+use mathlib.Core.Path.{_≡_, ap, _∙_}
 use Prim.Native.Nat.{_+_, _*_, _-_}
-use lib.Seq.{drop-drop}
+use native.Mathlib.Nat.{add-sub-cancel-left}
 use native.Mathlib.Omega.{arith}
+use lib.ListN.{length}
+use lib.Seq.{drop-drop}
+use borrow.Rule.Slice.PartMut.{mid-len, midOf}
 use Rattle.forms.specs.OwnForm.{rowWidth}
+use Rattle.forms.proofs.CopyLaws.{copy-all}
+use Rattle.sheet.specs.Sheets.{rowOf}
 use borrow.Author.Needs.{needs}
 use Rattle.sheet.proofs.rows.put_row.Statement.{statement}
 use Rattle.sheet.proofs.rows.put_row.Tie as tie
+
+add-station-row : tie.Need-add-station-row
+add-station-row c = search needs
+
+station-row-requires : tie.Need-station-row-requires
+station-row-requires c κs = search needs
 
 mul-start : tie.Need-mul-start
 mul-start c = search needs
@@ -15,40 +26,50 @@ mul-start c = search needs
 add-end : tie.Need-add-end
 add-end c = search needs
 
-sub-put-bytes : tie.Need-sub-put-bytes
-sub-put-bytes c = search needs
+slice-aggregate-copy : tie.Need-slice-aggregate-copy
+slice-aggregate-copy c = search needs
 
-part-put-bytes-start : tie.Need-part-put-bytes-start
-part-put-bytes-start c = search needs
+sub-copy : tie.Need-sub-copy
+sub-copy c = search needs
 
-part-put-bytes-end : tie.Need-part-put-bytes-end
-part-put-bytes-end c = search needs
+part-copy-start : tie.Need-part-copy-start
+part-copy-start c = search needs
 
-add-put-bytes : tie.Need-add-put-bytes
-add-put-bytes c = search needs
+part-copy-end : tie.Need-part-copy-end
+part-copy-end c = search needs
 
-put-bytes-requires : tie.Need-put-bytes-requires
-put-bytes-requires c κs = search needs
+copy-requires : tie.Need-copy-requires
+copy-requires c κs = search needs
 
 same-length : tie.Need-same-length
 same-length c = search needs
 
 returns : tie.Need-returns
+unfolding rowOf
 returns c =
-    let a = c .before .before .before .before .before .before .args in
-    let e : rowWidth * a .i + rowWidth - rowWidth * a .i ≡ rowWidth = omega arith in
-    rw (c .before .before .put-bytes .ensures, e, drop-drop rowWidth (rowWidth * a .i) (now (a .sheet)))
+    let a = c .before .before .before .before .before .before .before .before .args in
+    let s = now (a .sheet) in
+    let start = rowWidth * a .i in
+    let held = c .before .before .before .before .before .station-row in
+    let t = held .result in
+    let size : length t ≡ rowWidth = ap length (held .ensures) in
+    let e : start + rowWidth - start ≡ rowWidth = add-sub-cancel-left start rowWidth in
+    let l : length (midOf start (start + rowWidth - start) s) ≡ length t = mid-len start (start + rowWidth) s (search needs) ∙ (omega arith) in
+    let f : c .before .before .copy .last .1 .0 ≡ t = c .before .before .copy .ensures .1 ∙ copy-all t _ l in
+    rw (f, e, drop-drop rowWidth start s, held .ensures)
 
 pub put-row-spec : {M : Type 1} → statement M
 put-row-spec =
     tie.close
     (tie.spec
+    add-station-row
+    station-row-requires
     mul-start
     add-end
-    sub-put-bytes
-    part-put-bytes-start
-    part-put-bytes-end
-    add-put-bytes
-    put-bytes-requires
+    slice-aggregate-copy
+    sub-copy
+    part-copy-start
+    part-copy-end
+    copy-requires
     same-length
     returns)

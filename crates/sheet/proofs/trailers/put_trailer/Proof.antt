@@ -1,10 +1,8 @@
 -- `sheet::trailers::put_trailer` meets its contract: its bytes copied behind the rows that they tell of.
 use denote.Ref.{now}
-use mathlib.Core.Path.{_≡_, sym, ap, _∙_}
+use mathlib.Core.Path.{_≡_, ap, _∙_}
 use Prim.Native.Nat.{_-_, _*_}
-use native.Mathlib.Nat.{le-of-eq}
 use lib.ListN.{length}
-use lib.Seq.{length-take-le}
 use borrow.Rule.Slice.PartMut.{mid-len, midOf}
 use Rattle.forms.specs.Forms.{trailerOf, closed}
 use Rattle.forms.proofs.CopyLaws.{copy-all, back-from}
@@ -14,29 +12,11 @@ use borrow.Author.Needs.{needs}
 use Rattle.sheet.proofs.trailers.put_trailer.Statement.{statement}
 use Rattle.sheet.proofs.trailers.put_trailer.Tie as tie
 
+standing-trailer-requires : tie.Need-standing-trailer-requires
+standing-trailer-requires c κs = search needs
+
 mul-end : tie.Need-mul-end
 mul-end c = search needs
-
-slice-reshare-prefix-lowest-bad : tie.Need-slice-reshare-prefix-lowest-bad
-slice-reshare-prefix-lowest-bad c = search needs
-
-slice-aggregate-lowest-bad : tie.Need-slice-aggregate-lowest-bad
-slice-aggregate-lowest-bad c = let a = c .before .before .args in sym (length-take-le (rowWidth * a .n) (now (a .sheet)) (omega arith))
-
-lowest-bad-requires : tie.Need-lowest-bad-requires
-lowest-bad-requires c κs = let a = c .before .before .args in (search needs, le-of-eq (sym (length-take-le (rowWidth * a .n) (now (a .sheet)) (omega arith))))
-
-slice-reshare-prefix-bad-rows : tie.Need-slice-reshare-prefix-bad-rows
-slice-reshare-prefix-bad-rows c = search needs
-
-slice-aggregate-bad-rows : tie.Need-slice-aggregate-bad-rows
-slice-aggregate-bad-rows c = let a = c .before .before .before .before .args in sym (length-take-le (rowWidth * a .n) (now (a .sheet)) (omega arith))
-
-bad-rows-requires : tie.Need-bad-rows-requires
-bad-rows-requires c κs = let a = c .before .before .before .before .args in (search needs, le-of-eq (sym (length-take-le (rowWidth * a .n) (now (a .sheet)) (omega arith))))
-
-trailer-bytes-requires : tie.Need-trailer-bytes-requires
-trailer-bytes-requires c κs = search needs
 
 slice-aggregate-copy : tie.Need-slice-aggregate-copy
 slice-aggregate-copy c = search needs
@@ -59,30 +39,22 @@ same-length c = search needs
 returns : tie.Need-returns
 unfolding closed trailerOf
 returns c =
-    let a = c .before .before .before .before .before .before .before .before .before .before .before .args in
+    let a = c .before .before .before .before .before .before .before .before .args in
     let s = now (a .sheet) in
     let n = a .n in
-    let lowest = c .before .before .before .before .before .before .before .before .lowest-bad in
-    let found = c .before .before .before .before .before .before .bad-rows in
-    let held = c .before .before .before .before .before .trailer-bytes in
+    let held = c .before .before .before .before .before .standing-trailer in
     let t = held .result in
     let size : length t ≡ trailerLength = ap length (held .ensures) in
     let l : length (midOf (rowWidth * n) (length s - rowWidth * n) s) ≡ length t = mid-len (rowWidth * n) (length s) s (search needs) ∙ (omega arith) in
     let f : c .before .before .copy .last .1 .0 ≡ t = c .before .before .copy .ensures .1 ∙ copy-all t (midOf (rowWidth * n) (length s - rowWidth * n) s) l in
-    rw f (back-from s t (rowWidth * n) ∙ rw (held .ensures, lowest .ensures, found .ensures))
+    rw f (back-from s t (rowWidth * n) ∙ rw (held .ensures))
 
 pub put-trailer-spec : {M : Type 1} → statement M
 put-trailer-spec =
     tie.close
     (tie.spec
+    standing-trailer-requires
     mul-end
-    slice-reshare-prefix-lowest-bad
-    slice-aggregate-lowest-bad
-    lowest-bad-requires
-    slice-reshare-prefix-bad-rows
-    slice-aggregate-bad-rows
-    bad-rows-requires
-    trailer-bytes-requires
     slice-aggregate-copy
     sub-copy
     part-copy-start

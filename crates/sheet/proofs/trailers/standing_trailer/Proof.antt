@@ -1,0 +1,40 @@
+-- `sheet::trailers::standing_trailer` meets its contract: the lowest and the number of the bad rows that stand.
+use denote.Ref.{now}
+use mathlib.Core.Path.{sym, _∙_}
+use Prim.Native.Nat.{_*_}
+use native.Mathlib.Nat.{le-of-eq}
+use lib.Seq.{length-take-le}
+use native.Mathlib.Omega.{arith}
+use Rattle.forms.specs.OwnForm.{rowWidth}
+use borrow.Author.Needs.{needs}
+use Rattle.sheet.proofs.trailers.standing_trailer.Statement.{statement}
+use Rattle.sheet.proofs.trailers.standing_trailer.Tie as tie
+
+mul-rows : tie.Need-mul-rows
+mul-rows c = search needs
+
+slice-aggregate-rows : tie.Need-slice-aggregate-rows
+slice-aggregate-rows c = let a = c .before .before .args in sym (length-take-le (rowWidth * a .n) (now (a .sheet)) (omega arith))
+
+lowest-bad-requires : tie.Need-lowest-bad-requires
+lowest-bad-requires c κs = let a = c .before .before .args in (search needs, le-of-eq (sym (length-take-le (rowWidth * a .n) (now (a .sheet)) (omega arith))))
+
+bad-rows-requires : tie.Need-bad-rows-requires
+bad-rows-requires c κs = let a = c .before .before .before .args in (search needs, le-of-eq (sym (length-take-le (rowWidth * a .n) (now (a .sheet)) (omega arith))))
+
+trailer-bytes-requires : tie.Need-trailer-bytes-requires
+trailer-bytes-requires c κs = search needs
+
+returns : tie.Need-returns
+returns c = c .trailer-bytes .ensures ∙ rw (c .before .bad-rows .ensures, c .before .before .lowest-bad .ensures)
+
+pub standing-trailer-spec : {M : Type 1} → statement M
+standing-trailer-spec =
+    tie.close
+    (tie.spec
+    mul-rows
+    slice-aggregate-rows
+    lowest-bad-requires
+    bad-rows-requires
+    trailer-bytes-requires
+    returns)
