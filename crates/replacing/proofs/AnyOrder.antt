@@ -57,6 +57,10 @@ unfolding run
 run-length [] file = refl
 run-length (call ∷ calls) file = run-length calls (left file (call .0) (call .1)) ∙ left-length file (call .0) (call .1)
 
+-- also through a run,
+pub run-keeps-length : (file : List ℕ) (calls : List Call) → length (afterAll (file, sheetOf file) calls .0) ≡ length file
+run-keeps-length file calls = ap length (run-so calls file) ∙ run-length calls file
+
 -- so that the same records are taken all the way
 last-by-length : (calls : List Call) (f g : List ℕ) (m : ℕ) (r : List ℕ) → length g ≡ length f → lastTaken g m calls r ≡ lastTaken f m calls r
 last-by-length [] f g m r e = refl

@@ -1,0 +1,5 @@
+pub mod AlikeLaws
+pub mod RightLaws
+pub mod VerifyLaws
+pub mod Unique
+pub mod YesExactly

@@ -1,0 +1,75 @@
+// How far a sheet is right: rows are compared as they are judged, and no second sheet is kept.
+use files::lengths::record_in;
+use forms::form::ROW_WIDTH;
+use header_reading::judging::filed_header_code;
+use sheet::rows::station_row;
+use sheet::trailers::standing_trailer;
+ghost use mathlib.Core.Path.{_≡_};
+ghost use Prim.Native.Nat.{_+_, _*_, _≤_};
+ghost use lib.ListN.{length, drop};
+ghost use Rattle.basics.specs.Fields.{recordLength};
+ghost use Rattle.files.specs.Files.{mostStations};
+ghost use Rattle.forms.specs.Counting.{rows};
+ghost use Rattle.forms.specs.OwnForm.{rowWidth};
+ghost use Rattle.sheet.specs.Sheets.{rowOf, judgedSheet};
+ghost use Rattle.sheet.specs.Promises.{Sized};
+ghost use Rattle.verifying.specs.Verifying.{alike};
+
+// How many bytes two texts have alike in front.
+fn alike_in_front(a: &[u8], b: &[u8]) -> usize
+    ensures { λ r. ⌜ r ≡ alike (now (a .entry)) (now (b .entry)) ⌝ }
+{
+    let mut i = 0;
+    while i < a.len() {
+        if i == b.len() {
+            return b.len();
+        }
+        let next = i + 1;
+        if a[i] != b[i] {
+            return i;
+        }
+        i = next;
+    }
+    i
+}
+
+// How many bytes of row i + 1 are right.
+fn right_in_row(file: &[u8], sheet: &[u8], i: usize) -> usize
+    requires { ⌜ (i + 1 ≤ mostStations) × (rowWidth * i ≤ length (now sheet)) × (recordLength * (i + 1) + recordLength ≤ length (now file)) ⌝ }
+    ensures { λ r. ⌜ r ≡ alike (rowOf (now (file .entry)) (i + 1)) (drop (rowWidth * i) (now (sheet .entry))) ⌝ }
+{
+    let row = station_row(file, i + 1);
+    let start = ROW_WIDTH * i;
+    alike_in_front(&row, &sheet[start..])
+}
+
+// How many bytes are right before the first wrong one of n rows.
+fn right_in_rows(file: &[u8], sheet: &[u8], n: usize) -> usize
+    requires { ⌜ Sized (now file) (now sheet) n ⌝ }
+    ensures { λ r. ⌜ r ≡ alike (rows (rowOf (now (file .entry))) n) (now (sheet .entry)) ⌝ }
+{
+    let mut i = 0;
+    while i < n {
+        let right = right_in_row(file, sheet, i);
+        if right < ROW_WIDTH {
+            return ROW_WIDTH * i + right;
+        }
+        i += 1;
+    }
+    ROW_WIDTH * n
+}
+
+// How many bytes are right before the first wrong one of a sheet of n rows. The trailer is made from the rows, which are right by then.
+pub(crate) fn right_in_sheet(file: &[u8], sheet: &[u8], n: usize) -> usize
+    requires { ⌜ Sized (now file) (now sheet) n ⌝ }
+    ensures { λ r. ⌜ r ≡ alike (judgedSheet (now (file .entry)) n) (now (sheet .entry)) ⌝ }
+{
+    let end = ROW_WIDTH * n;
+    let right = right_in_rows(file, sheet, n);
+    if right < end {
+        return right;
+    }
+    let head = filed_header_code(record_in(file, 0), n);
+    let trailer = standing_trailer(sheet, n, head);
+    end + alike_in_front(&trailer, &sheet[end..])
+}
