@@ -1,5 +1,5 @@
 /*
- * desk.h - filing files: read, judged, replaced, shown, set and listed.
+ * desk.h - filing files: read, judged, replaced, verified, shown, set and listed.
  *
  * A filing file is one header and n stations, 0 <= n <= 298, each a record of 219 bytes, with
  * nothing between them. Its sheet has 3n + 10 bytes: for each station its code and its twin (two
@@ -9,8 +9,8 @@
  *
  * Every function but desk_rules returns the number of its refusal, DESK_DONE (0) if there is
  * none. Where more than one refusal applies the lowest number is given, unless the function says
- * otherwise. A refused call changes no lent byte. The answers behind `code`, `rows`, `offset` and
- * `length` are always written; `code` is 0 with any refusal but DESK_REFUSED_RULE_BROKEN (9).
+ * otherwise. A refused call changes no lent byte. The answers behind `code`, `rows`, `found`, `offset`
+ * and `length` are always written; `code` is 0 with any refusal but DESK_REFUSED_RULE_BROKEN (9).
  *
  * Each pointer and the length after it are one lent slice. No pointer may be NULL, even where the
  * length is 0, and no two slices of a call may overlap. No pointer is kept after the call, and
@@ -57,6 +57,13 @@ enum desk_refusal {
     DESK_REFUSED_OLD_FORM_TOO_MANY = 13  /* an old form's sheet of more than 250 stations */
 };
 
+/* What desk_verify finds. */
+enum desk_found {
+    DESK_FOUND_NOTHING = 0,  /* the call is refused */
+    DESK_FOUND_RIGHT = 1,    /* it is the sheet that the file is judged to */
+    DESK_FOUND_WRONG = 2     /* it is not */
+};
+
 /*
  * Judges a file and fills its sheet.
  * Refusals: 1, 2, 3.
@@ -76,6 +83,17 @@ uint8_t desk_replace(uint8_t *file, size_t file_length,
                      size_t number,
                      const uint8_t *record, size_t record_length,
                      size_t *rows);
+
+/*
+ * Tells whether a sheet is the one that the file is judged to, without changing either: `found` is
+ * DESK_FOUND_RIGHT if every byte is right, and DESK_FOUND_WRONG if not; then `offset` is that of the
+ * first wrong byte, from 0. `offset` is 0 otherwise. A sheet that desk_judge filled and desk_replace
+ * mended is always right. A trailer of other bytes is no refusal here: it is wrong at its offset.
+ * Refusals: 1, 2, 3; `found` is then DESK_FOUND_NOTHING.
+ */
+uint8_t desk_verify(const uint8_t *file, size_t file_length,
+                    const uint8_t *sheet, size_t sheet_length,
+                    uint8_t *found, size_t *offset);
 
 /*
  * Sheets of the old form have 2n + 8 bytes: a twin, a lowest bad row and a number of bad rows of one

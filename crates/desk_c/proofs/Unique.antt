@@ -12,7 +12,7 @@ use Rattle.answers.specs.Endings.{Answered, AnsweredLeaving}
 use Rattle.rewriting.specs.Records.{respellOutcome, respelledStation, respellHeaderOutcome, respelledHeader, changeOutcome, changedRecord}
 use Rattle.desk_c.specs.Records.{tenthsStated, heightStated}
 use Rattle.forms.specs.Forms.{Form}
-use Rattle.desk_c.specs.Promises.{StationCoded, HeaderCoded, StationRespelled, HeaderRespelled, RecordChanged, PowerChanged, AzimuthChanged, ElevationChanged, HeightChanged, GroundChanged, FilingJudged, FilingReplaced, FilingTurned, FieldLocated, RecordLineOut, LineRecordIn}
+use Rattle.desk_c.specs.Promises.{StationCoded, HeaderCoded, StationRespelled, HeaderRespelled, RecordChanged, PowerChanged, AzimuthChanged, ElevationChanged, HeightChanged, GroundChanged, FilingJudged, FilingReplaced, FilingVerified, FilingTurned, FieldLocated, RecordLineOut, LineRecordIn}
 use Rattle.answers.specs.Rules.{RulesNumbered}
 
 -- One outcome has one number and one code,
@@ -73,6 +73,10 @@ one-judging file sheet a b x y p q = (p .0 ∙ sym (q .0), p .1 ∙ sym (q .1))
 pub one-replacing : (file sheet : List ℕ) (k : ℕ) (r : List ℕ) (a b : ℕ) (f g x y : List ℕ) (m n : ℕ)
     → FilingReplaced file sheet k r a f x m → FilingReplaced file sheet k r b g y n → (a ≡ b) × (f ≡ g) × (x ≡ y) × (m ≡ n)
 one-replacing file sheet k r a b f g x y m n p q = (p .0 ∙ sym (q .0), p .1 ∙ sym (q .1), p .2 ∙ sym (q .2), p .3 ∙ sym (q .3))
+
+-- `desk_verify` one answer, one finding and one offset,
+pub one-verifying : (file sheet : List ℕ) (a b c d m n : ℕ) → FilingVerified file sheet a c m → FilingVerified file sheet b d n → (a ≡ b) × (c ≡ d) × (m ≡ n)
+one-verifying file sheet a b c d m n p q = (p .0 ∙ sym (q .0), p .1 .0 ∙ sym (q .1 .0), p .1 .1 ∙ sym (q .1 .1))
 
 -- `desk_turn_forward` and `desk_turn_back` one answer and one content of the lent sheet,
 pub one-turning : (from to : Form) (file given lent : List ℕ) (a b : ℕ) (x y : List ℕ) → FilingTurned from to file given lent a x → FilingTurned from to file given lent b y → (a ≡ b) × (x ≡ y)

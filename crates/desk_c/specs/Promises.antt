@@ -15,6 +15,9 @@ use Rattle.sheet.specs.Calls.{judgeOutcome, judgedInto}
 use Rattle.replacing.specs.Calls.{replaceOutcome, replacedFile, replacedSheet, replacedRows}
 use Rattle.forms.specs.Forms.{Form}
 use Rattle.turning.specs.Calls.{turnOutcome, turnedInto}
+use Rattle.verifying.specs.Verifying.{findingOf}
+use Rattle.verifying.specs.declared.verifying.Finding.{Finding}
+use Rattle.verifying.specs.declared.verifying.Finding.the-variants as finding
 use Rattle.answers.specs.Endings.{Answered, AnsweredLeaving}
 use Rattle.rewriting.specs.Records.{respellOutcome, respelledStation, respellHeaderOutcome, respelledHeader, changeOutcome, changedRecord}
 use Rattle.desk_c.specs.Records.{tenthsStated, heightStated}
@@ -70,6 +73,24 @@ FilingReplaced file sheet k r answer file′ sheet′ rows =
     × (file′ ≡ replacedFile file sheet k r)
     × (sheet′ ≡ replacedSheet file sheet k r)
     × (rows ≡ replacedRows file sheet k r)
+
+-- What verifying found, as numbers: nothing is 0, right is 1, wrong is 2 and the offset, which is 0 with the others.
+unfoldable pub findingNumber : Finding → ℕ
+findingNumber finding.Refused = 0
+findingNumber finding.Right = 1
+findingNumber (finding.WrongAt o) = 2
+
+unfoldable pub offsetWith : Finding → ℕ
+offsetWith finding.Refused = 0
+offsetWith finding.Right = 0
+offsetWith (finding.WrongAt o) = o
+
+abbrev pub FindingTold : Finding → ℕ → ℕ → Type 0
+FindingTold f found offset = (found ≡ findingNumber f) × (offset ≡ offsetWith f)
+
+-- `desk_verify` of a file and a sheet.
+abbrev pub FilingVerified : List ℕ → List ℕ → ℕ → ℕ → ℕ → Type 0
+FilingVerified file sheet answer found offset = (answer ≡ refusal (judgeOutcome file sheet)) × FindingTold (findingOf file sheet) found offset
 
 -- `desk_turn_forward` and `desk_turn_back` of a list's sheet of one form into a lent one of the other.
 abbrev pub FilingTurned : Form → Form → List ℕ → List ℕ → List ℕ → ℕ → List ℕ → Type 0

@@ -1,4 +1,4 @@
-// The calls on files and sheets: judging, replacing, turning and showing.
+// The calls on files and sheets: judging, replacing, verifying, turning and showing.
 use basics::outcomes::is_done;
 use basics::outcomes::refusal_number;
 use files::showing::field_place;
@@ -7,8 +7,10 @@ use replacing::records::replace;
 use sheet::judging::judge;
 use turning::back::turn_back;
 use turning::forward::turn_forward;
+use verifying::verifying::Finding;
+use verifying::verifying::verify;
 ghost use Rattle.replacing.specs.Promises.{StillJudged};
-ghost use Rattle.desk_c.specs.Promises.{FilingJudged, FilingReplaced, FilingTurned, FieldLocated};
+ghost use Rattle.desk_c.specs.Promises.{FindingTold, FilingJudged, FilingReplaced, FilingVerified, FilingTurned, FieldLocated};
 ghost use Rattle.forms.specs.OwnForm.{form};
 ghost use Rattle.turning.specs.OldForm.{oldForm};
 
@@ -35,6 +37,38 @@ pub extern "C" fn desk_replace(
     let replaced = replace(file, sheet, number, rec);
     let outcome = replaced.outcome;
     *rows = replaced.rows;
+    refusal_number(outcome)
+}
+
+// What was found, as numbers: 0 and 0 for nothing, 1 and 0 for right, 2 and the offset for wrong.
+fn told_finding(finding: Finding, offset: &mut usize) -> u8
+    ensures { λ r. ⌜ FindingTold finding r (now (offset .exit)) ⌝ }
+{
+    match finding {
+        Finding::Refused => {
+            *offset = 0;
+            0
+        }
+        Finding::Right => {
+            *offset = 0;
+            1
+        }
+        Finding::WrongAt(o) => {
+            *offset = o;
+            2
+        }
+    }
+}
+
+// Whether the sheet is the one that the file is judged to: 1, 2, 3, or 0 and what was found.
+#[no_mangle]
+pub extern "C" fn desk_verify(file: &[u8], sheet: &[u8], found: &mut u8, offset: &mut usize) -> u8
+    ensures { λ r. ⌜ FilingVerified (now (file .entry)) (now (sheet .entry)) r (now (found .exit)) (now (offset .exit)) ⌝ }
+{
+    let verified = verify(file, sheet);
+    let outcome = verified.outcome;
+    let finding = verified.finding;
+    *found = told_finding(finding, offset);
     refusal_number(outcome)
 }
 

@@ -20,7 +20,8 @@ One thread; every buffer is lent, stays in memory and was used before, so caches
 Records: 64 different stations in turn; respelling writes into one buffer of 219 bytes, listing
 into one of 249. Lines: those of the same stations in turn, filed into one buffer of 219 bytes.
 Judging: files whose 13X share their first nine bytes, or where it is said their last six, and
-all differ, so that no search for a twin ends early; two files in turn, one sheet.
+all differ, so that no search for a twin ends early; two files in turn, one sheet. Verifying: the
+same files, each with the sheet that it is judged to.
 Replacing: one file and its own sheet, changed by every call. One row: each station in turn gets
 a 13X that no other has. n rows: all stations share one 13X; number 1 leaves it and comes back to
 it by turns.
@@ -30,6 +31,7 @@ it by turns.
 struct Size {
     n: usize,
     judge: Times,
+    verify: Times,
     replace_one: Times,
     replace_all: Times,
 }
@@ -44,6 +46,7 @@ fn main() {
     row("station code, stations that hold", station_code(&samples::stations()));
     row("station code, one field broken", station_code(&samples::broken_stations()));
     row("judge, n = 298", full.judge);
+    row("verify a sheet that is right, n = 298", full.verify);
     row("replace that writes one row, n = 298", full.replace_one);
     row("replace that writes 298 rows, n = 298", full.replace_all);
     row("respell a station", respell());
@@ -64,6 +67,10 @@ fn main() {
         row(&format!("  judge, n = {n}"), judge(n, samples::far_reference));
         row(&format!("  replace, one row, n = {n}"), replace_one(n, samples::far_reference));
     }
+    println!("verify : judge, verified alone; each sheet is right");
+    for Size { n, judge, verify, .. } in &sizes {
+        println!("  n = {n:<4} {:38.2}", verify.verified / judge.verified);
+    }
     println!("judge : replace at n = 298, verified alone");
     println!("  one row written {:30.1}", full.judge.verified / full.replace_one.verified);
     println!("  298 rows written {:29.1}", full.judge.verified / full.replace_all.verified);
@@ -74,6 +81,7 @@ fn measured(n: usize) -> Size {
     Size {
         n,
         judge: judge(n, near),
+        verify: verify(n, near),
         replace_one: replace_one(n, near),
         replace_all: replace_all(n),
     }
@@ -192,6 +200,28 @@ fn judge(n: usize, reference: fn(usize) -> [u8; 15]) -> Times {
     );
     assert_eq!(our_sheet, their_sheet);
     times
+}
+
+/// The sheets are those judged from the files, so that each is compared to its end.
+fn verify(n: usize, reference: fn(usize) -> [u8; 15]) -> Times {
+    let sides = [0, 300].map(|first| {
+        let file = samples::file(n, |index| reference(first + index));
+        let mut sheet = vec![0; sheet_length(n)];
+        assert_eq!(raw::judge(&file, &mut sheet), 0);
+        (file, sheet)
+    });
+    let mut ours = sides.iter().cycle();
+    let mut theirs = sides.iter().cycle();
+    compare(
+        || {
+            let (file, sheet) = black_box(ours.next().expect("a cycle"));
+            assert_eq!(raw::verify(file, sheet), (0, 1, 0));
+        },
+        || {
+            let (file, sheet) = black_box(theirs.next().expect("a cycle"));
+            assert_eq!(peer::verify(file, sheet), Ok(None));
+        },
+    )
 }
 
 /// Each station in turn gets a 13X of its own.

@@ -1,8 +1,8 @@
 //! A safe wrapper over the desk library, whose C boundary `include/desk.h` describes.
 //!
 //! A filing file is one header and n stations, 0 ≤ n ≤ 298, each a record of 219 bytes. Judging
-//! fills a sheet of 3n + 10 bytes; replacing puts a record in and mends the sheet; showing finds a
-//! field; setting changes one value of a station; listing turns a station's record into a line of
+//! fills a sheet of 3n + 10 bytes; replacing puts a record in and mends the sheet; verifying tells
+//! whether a sheet that somebody else wrote is the one judged; showing finds a field; setting changes one value of a station; listing turns a station's record into a line of
 //! a semicolon list, or such a line into a record. A refused call changes no lent byte.
 //!
 //! ```
@@ -90,6 +90,36 @@ pub fn replace(
 ) -> Result<usize, Refusal> {
     let (refusal, rows) = raw::replace(file, sheet, number, record);
     answer(refusal, 0, rows)
+}
+
+/// What verifying finds of a sheet.
+#[derive(Clone, Copy, Debug, PartialEq, Eq)]
+pub enum Finding {
+    /// It is the sheet that the file is judged to.
+    Right,
+    /// It is not; every byte before the offset, which is counted from 0, is right.
+    WrongAt {
+        /// Where its first wrong byte stands.
+        offset: usize,
+    },
+}
+
+/// Whether a sheet is the one that the file is judged to. Refusals: 1, 2, 3.
+///
+/// ```
+/// let file = [b' '; 2 * 219];
+/// let mut sheet = [0; desk::sheet_length(1)];
+/// desk::judge(&file, &mut sheet)?;
+/// assert_eq!(desk::verify(&file, &sheet)?, desk::Finding::Right);
+/// sheet[0] = 0;
+/// assert_eq!(desk::verify(&file, &sheet)?, desk::Finding::WrongAt { offset: 0 });
+/// assert_eq!(desk::verify(&file, &sheet[1..]), Err(desk::Refusal::SheetLength));
+/// # Ok::<(), desk::Refusal>(())
+/// ```
+pub fn verify(file: &[u8], sheet: &[u8]) -> Result<Finding, Refusal> {
+    let (refusal, found, offset) = raw::verify(file, sheet);
+    let finding = if found == 1 { Finding::Right } else { Finding::WrongAt { offset } };
+    answer(refusal, 0, finding)
 }
 
 /// Fills a sheet with what one of the old form says, which "2A" ends. Refusals: 1 to 4, 13.

@@ -37,6 +37,14 @@ extern "C" {
         record_length: usize,
         rows: *mut usize,
     ) -> u8;
+    fn desk_verify(
+        file: *const u8,
+        file_length: usize,
+        sheet: *const u8,
+        sheet_length: usize,
+        found: *mut u8,
+        offset: *mut usize,
+    ) -> u8;
     fn desk_show(
         file: *const u8,
         file_length: usize,
@@ -168,6 +176,17 @@ pub fn replace(file: &mut [u8], sheet: &mut [u8], number: usize, record: &[u8]) 
         )
     };
     (refusal, rows)
+}
+
+/// `desk_verify`: the refusal, what was found and the offset.
+pub fn verify(file: &[u8], sheet: &[u8]) -> (u8, u8, usize) {
+    let (mut found, mut offset) = (NO_CODE, NO_COUNT);
+    // SAFETY: both pointers are good for the lengths of their slices; the answers are places of our
+    // own.
+    let refusal = unsafe {
+        desk_verify(file.as_ptr(), file.len(), sheet.as_ptr(), sheet.len(), &mut found, &mut offset)
+    };
+    (refusal, found, offset)
 }
 
 /// `desk_turn_forward`: the refusal.

@@ -165,6 +165,17 @@ impl Comparison {
         sheet.copy_from_slice(our_sheet.part());
     }
 
+    /// Compares verifying; answers what was found, and the offset.
+    pub fn verify(&mut self, file: &[u8], sheet: &[u8]) -> (u8, usize) {
+        let (our_file, our_sheet) = (Lent::new(file), Lent::new(sheet));
+        let answer = raw::verify(our_file.part(), our_sheet.part());
+        agree("verify", answer, oracle::verify(file, sheet), &[sheet, file]);
+        untouched("verify", &our_file, file);
+        untouched("verify", &our_sheet, sheet);
+        self.tally.refusal("verify", answer.0);
+        (answer.1, answer.2)
+    }
+
     /// Compares turning forward into a sheet that holds `lent`; answers what it holds then.
     pub fn turn_forward(&mut self, file: &[u8], given: &[u8], lent: &[u8]) -> Vec<u8> {
         self.turn("turn_forward", raw::turn_forward, oracle::turn_forward, [file, given, lent])

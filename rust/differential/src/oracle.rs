@@ -13,6 +13,17 @@ pub fn replace(file: &mut [u8], sheet: &mut [u8], number: usize, record: &[u8]) 
     (numbers(&answer).0, answer.unwrap_or(0))
 }
 
+/// `desk_verify`.
+pub fn verify(file: &[u8], sheet: &[u8]) -> (u8, u8, usize) {
+    let answer = peer::verify(file, sheet);
+    let refusal = numbers(&answer).0;
+    match answer {
+        Ok(None) => (refusal, 1, 0),
+        Ok(Some(offset)) => (refusal, 2, offset),
+        Err(_) => (refusal, 0, 0),
+    }
+}
+
 /// `desk_turn_forward`.
 pub fn turn_forward(file: &[u8], given: &[u8], lent: &mut [u8]) -> u8 {
     numbers(&peer::turn_forward(file, given, lent)).0

@@ -90,8 +90,44 @@ impl Run<'_> {
         if own_sheet {
             self.either_order();
         }
+        self.verify(own_sheet);
         self.turn();
         self.show();
+    }
+
+    /// A sheet that was judged and mended is right, and every other byte in the judged sheet is
+    /// found where it stands, even with more behind it; then with something of another length.
+    fn verify(&mut self, own_sheet: bool) {
+        let found = self.comparison.verify(&self.file, &self.sheet);
+        if own_sheet {
+            assert_eq!(found, (1, 0), "a mended sheet is not found right");
+        }
+        let judged = self.judged();
+        let places: Vec<usize> = if self.stations <= 10 {
+            (0..judged.len()).collect()
+        } else {
+            let behind = 1 + self.random.below(10);
+            vec![0, self.random.below(judged.len()), judged.len() - behind]
+        };
+        for place in places {
+            let mut sheet = judged.clone();
+            sheet[place] ^= 1 + self.random.byte() % 255;
+            assert_eq!(self.comparison.verify(&self.file, &sheet), (2, place), "one byte is wrong");
+            let behind = place + self.random.below(sheet.len() - place);
+            sheet[behind + 1..].fill_with(|| self.random.byte());
+            assert_eq!(
+                self.comparison.verify(&self.file, &sheet),
+                (2, place),
+                "the first is wrong"
+            );
+        }
+        let (mut long, mut file) = (judged.clone(), self.file.clone());
+        long.push(0);
+        self.comparison.verify(&file, &long);
+        self.comparison.verify(&file, &judged[1..]);
+        file.resize(self.random.pick(&[0, file.len() - 1, MAX_FILE_LENGTH + 1]), b' ');
+        self.comparison.verify(&file, &judged);
+        self.comparison.verify(&file, &long);
     }
 
     /// Turns the sheet to the old form and back, then with something wrong; what is turned there
@@ -213,7 +249,11 @@ impl Run<'_> {
         let calls: Vec<Call> = (0..size).map(|_| self.call()).collect();
         let others = reordered(self.random, &calls);
         let left = self.after(&calls);
-        assert_eq!(left, self.after(&others), "calls at different numbers do not come in either order");
+        assert_eq!(
+            left,
+            self.after(&others),
+            "calls at different numbers do not come in either order"
+        );
     }
 
     /// A replacement of any number, one above the last among them, by a record that may have another length.

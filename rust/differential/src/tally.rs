@@ -7,6 +7,7 @@ use std::fmt;
 const REFUSALS: &[(&str, &[u8])] = &[
     ("judge", &[0, 1, 2, 3]),
     ("replace", &[0, 1, 2, 3, 4, 5, 6]),
+    ("verify", &[0, 1, 2, 3]),
     ("turn_forward", &[0, 1, 2, 3, 4, 13]),
     ("turn_back", &[0, 1, 2, 3, 4, 13]),
     ("show", &[0, 1, 2, 5, 8]),

@@ -1,4 +1,4 @@
-//! Filing files of document 01, and wishes 1, 2, 4 and 10 of 02, written a second time from the
+//! Filing files of document 01, and wishes 1, 2, 4, 10 and 12 of 02, written a second time from the
 //! papers alone.
 //!
 //! A filing file is one header and up to 298 stations, each a record of 219 bytes. This crate
@@ -28,6 +28,7 @@ mod spelling;
 mod station;
 mod turning;
 mod values;
+mod verifying;
 
 /// The number of the rules followed here: 1 for document 01, 2 with wish 2 of 02.
 pub const RULES: u32 = 2;
@@ -39,3 +40,4 @@ pub use refusal::Refusal;
 pub use station::{station_code, Station};
 pub use turning::{old_sheet_length, turn_back, turn_forward, OLD_MAX_STATIONS};
 pub use values::{Date, Frequency, Kilometres, Metres, Place, Tenths, Unit};
+pub use verifying::verify;
