@@ -96,7 +96,7 @@ def cases():
     yield "list_out_of_a_bad_station", 1, "list_out --titles my", {"my": broken}, {}
     yield "list_out_of_no_filing", 1, "list_out --titles my", {"my": SEVEN[:-1]}, {}
     yield "list_out_of_a_header_alone", 1, "list_out my", {"my": header(0)}, {}
-    for tool, words in (("desk", ""), ("list_out", ""), ("list_in", ""), ("clean_list", ""), ("filing", ""), ("changes", "my "), ("file_list", "my list.csv ")):
+    for tool, words in (("desk", ""), ("list_out", ""), ("list_in", ""), ("clean_list", ""), ("filing", ""), ("changes", "my "), ("verify", "my "), ("file_list", "my list.csv ")):
         yield tool + "_on_a_directory", 2, "mkdir folder; %s %sfolder; status=$?; rmdir folder; exit $status" % (tool, words), some, {}
         yield tool + "_on_no_file", 2, "%s %snowhere/none" % (tool, words), some, {}
         yield tool + "_with_an_unknown_option", 2, "%s --all %smy" % (tool, words), some, {}
@@ -168,6 +168,18 @@ def cases():
     yield "changes_of_a_header", 0, "changes old new", {"old": SEVEN, "new": header(7, {"person": "NOVAK, B.".ljust(20)}) + b"".join(RECORDS)}, {}
     yield "changes_to_nothing", 1, "changes old new", {"old": SEVEN, "new": header(0)}, {}
     yield "changes_of_no_filing", 1, "changes old new", {"old": SEVEN, "new": SEVEN[:-1]}, {}
+
+    # Sheets from the partner desk: of seven good stations, and of three with a twin.
+    sheet = bytes(21) + b"\x00\x1f\x03\x00\x00\x00\x00\x002B"
+    yield "verify_a_right_sheet", 0, "verify my sheet; verify - sheet <my; verify my - <sheet", {"my": SEVEN, "sheet": sheet}, {}
+    yield "verify_a_right_twin", 0, "verify my sheet", {"my": twice, "sheet": bytes(8) + b"\x01\x00\x13\x03\x00\x00\x03\x00\x012B"}, {}
+    for what, place in (("first_byte", 0), ("code", 3), ("twin", 8), ("distance", 22), ("header_code", 24), ("lowest_row", 26), ("count", 28), ("mark", 30)):
+        wrong = sheet[:place] + bytes([sheet[place] ^ 1]) + sheet[place + 1:]
+        yield "verify_a_wrong_" + what, 1, "verify my sheet", {"my": SEVEN, "sheet": wrong}, {}
+    yield "verify_a_short_sheet", 1, "verify my sheet", {"my": SEVEN, "sheet": sheet[1:]}, {}
+    yield "verify_an_old_sheet", 1, "verify my sheet", {"my": SEVEN, "sheet": bytes(14) + b"\x00\x16\x02\x00\x00\x002A"}, {}
+    yield "verify_no_filing", 1, "verify my sheet", {"my": SEVEN[:-1], "sheet": sheet}, {}
+    yield "verify_both_on_standard_input", 2, "verify - -", {}, {}
 
 
 def main():

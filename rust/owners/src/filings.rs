@@ -15,7 +15,7 @@ const COUNT: usize = 9;
 const REFERENCE: usize = 30;
 
 /// The bytes of a row of a sheet: a code, and a twin of two bytes.
-const ROW_WIDTH: usize = 3;
+pub const ROW_WIDTH: usize = 3;
 
 /// A file that the library judges, and the sheet that it gave.
 pub struct Filing {

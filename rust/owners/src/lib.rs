@@ -1,5 +1,5 @@
 //! Owners' lists without a loss: a list filed under an old header, what it changes, what is
-//! refused and why, and what a spreadsheet added taken off.
+//! refused and why, what a spreadsheet added taken off, and whether a sheet is the right one.
 //!
 //! Whatever accepts or refuses is a call of the library; this crate reads files, calls, compares
 //! bytes, and says in words what came of it.
@@ -14,5 +14,6 @@ pub mod lists;
 pub mod programs;
 pub mod rules;
 pub mod saving;
+pub mod sheets;
 pub mod status;
 pub mod words;

@@ -7,7 +7,7 @@ use std::os::unix::fs::MetadataExt;
 use std::path::Path;
 use std::process::ExitCode;
 
-use desk::{LongField, Refusal, RECORD_LENGTH};
+use desk::{Finding, LongField, Refusal, RECORD_LENGTH};
 
 use crate::asked::{plain, read, Asked};
 use crate::changes::Changes;
@@ -16,6 +16,7 @@ use crate::filings::Filing;
 use crate::lists::{lines, take_in};
 use crate::rules;
 use crate::saving::save;
+use crate::sheets;
 use crate::status::{Outcome, Trouble};
 use crate::words::explain;
 
@@ -61,6 +62,12 @@ const PROGRAMS: &[Program] = &[
         options: &[],
         usage: include_str!("../../../tools/filing"),
         act: filing,
+    },
+    Program {
+        name: "verify",
+        options: &[],
+        usage: include_str!("../../../tools/verify"),
+        act: verify,
     },
     Program {
         name: "titles",
@@ -316,6 +323,29 @@ fn filing(asked: &Asked) -> Outcome<()> {
     match new_path {
         Some(path) => write(path, new.bytes()),
         None => put(new.bytes()),
+    }
+}
+
+fn verify(asked: &Asked) -> Outcome<()> {
+    let [file_path, sheet_path] = asked.exactly()?;
+    if [file_path, sheet_path] == [Path::new("-"); 2] {
+        return Err(Trouble::Wrong("one of them has to be a file".to_string()));
+    }
+    let (file, sheet) = (read(file_path)?, read(sheet_path)?);
+    let (file_name, sheet_name) = (file_path.display(), sheet_path.display());
+    match desk::verify(&file, &sheet) {
+        Ok(Finding::Right) => put(b"right\n"),
+        Ok(Finding::WrongAt { offset }) => {
+            let part = sheets::part(file.len() / RECORD_LENGTH - 1, offset);
+            put(format!("wrong at {offset}: {part}\n").as_bytes())?;
+            Err(Trouble::Refused(format!(
+                "{sheet_name} is not the sheet that {file_name} is judged to"
+            )))
+        }
+        Err(refusal) => {
+            put(format!("refused {}\n", refusal.number()).as_bytes())?;
+            Err(Trouble::Refused(sheets::why(&file, &sheet, refusal)))
+        }
     }
 }
 
