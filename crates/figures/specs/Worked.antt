@@ -16,6 +16,8 @@ use Rattle.replacing.specs.Calls.{replacedSheet, replacedRows}
 use Rattle.forms.specs.OwnForm.{form}
 use Rattle.turning.specs.OldForm.{oldForm}
 use Rattle.turning.specs.Calls.{turnOutcome, turnedInto}
+use Rattle.verifying.specs.Verifying.{findingOf}
+use Rattle.verifying.specs.declared.verifying.Finding.the-variants as finding
 use Rattle.basics.specs.Outcomes.{refusal, codeWith}
 use Rattle.figures.specs.Figures.{Figure, figure, minus, AllHold}
 use lib.IntN.{pos}
@@ -129,6 +131,10 @@ pub record Worked : Type 0 where
   pub two-turned : turnedInto oldForm form two oldTwoSheet twoSheet ≡ twoSheet
   pub two-back : turnedInto form oldForm two twoSheet oldTwoSheet ≡ oldTwoSheet
   pub two-swapped : refusal (turnOutcome oldForm form two twoSheet oldTwoSheet) ≡ 3
+  -- The judged sheet is right. The mended one, beside the list as it was, is wrong at its second twin's low byte; and an old sheet is refused.
+  pub two-right : findingOf two twoSheet ≡ finding.Right
+  pub two-wrong : findingOf two mendedSheet ≡ finding.WrongAt 5
+  pub two-old : findingOf two oldTwoSheet ≡ finding.Refused
   -- A valid header alone, count 0.
   pub header-alone : sheetOf (recordFrom (samples.headerOf "     0")) ≡ aloneSheet
   -- A count that is not n is code 15, in a sheet alone.
