@@ -1,6 +1,6 @@
 /*
- * The desk from C: a filing judged, a field shown, a station replaced, the sheet mended, and a
- * station as a line of a semicolon list.
+ * The desk from C: a filing judged, a field shown, a station replaced, the sheet mended and
+ * verified, and a station as a line of a semicolon list.
  *
  *     tools/hostlib target/host
  *     cc -Iinclude docs/example.c target/host/libdesk_c.a -o target/host/example
@@ -64,6 +64,14 @@ int main(int count, char **words)
     refusal = desk_replace(file, length, sheet, sheet_length, 1, record, sizeof record, &rows);
     printf("refused %u, rows %zu\n", refusal, rows);
     print_bytes(sheet, sheet_length);
+
+    /* It is the sheet that the file is judged to; with a twin more it is wrong at that byte. */
+    uint8_t found;
+    refusal = desk_verify(file, length, sheet, sheet_length, &found, &offset);
+    printf("refused %u, %s\n", refusal, found == DESK_FOUND_RIGHT ? "right" : "wrong");
+    sheet[5] = 1;
+    refusal = desk_verify(file, length, sheet, sheet_length, &found, &offset);
+    printf("refused %u, %s at %zu\n", refusal, found == DESK_FOUND_WRONG ? "wrong" : "right", offset);
 
     /* An azimuth of 360.0 breaks rule 17, and the record keeps its bytes. */
     uint8_t code;

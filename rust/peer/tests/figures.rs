@@ -496,6 +496,20 @@ fn turning() {
 }
 
 #[test]
+fn verifying() {
+    let two = file(header(2), &[*S, *S]);
+    let mut sheet = judged(&two);
+    assert_eq!(verify(&two, &sheet), Ok(None));
+    sheet[15] = b'A';
+    assert_eq!(verify(&two, &sheet), Ok(Some(15)));
+    sheet[0] = 1;
+    assert_eq!(verify(&two, &sheet), Ok(Some(0)));
+    assert_eq!(verify(&two, &sheet[..15]), Err(Refusal::SheetLength));
+    assert_eq!(verify(&two[1..], &sheet), Err(Refusal::FileNotRecords));
+    assert_eq!(verify(&[b' '; MAX_FILE_LENGTH + 1], &[]), Err(Refusal::FileTooLong));
+}
+
+#[test]
 fn replacing_the_header_writes_no_row() {
     let mut file = file(header(2), &[*S, *S]);
     let mut sheet = judged(&file);
