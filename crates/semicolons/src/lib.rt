@@ -3,7 +3,7 @@
 pub mod filling;
 pub mod joining;
 pub mod marks;
-mod padding;
+pub mod padding;
 pub mod splitting;
 mod trimming;
 

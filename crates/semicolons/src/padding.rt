@@ -117,7 +117,7 @@ pub(crate) fn put_text(out: &mut [u8], start: usize, text: &[u8])
 }
 
 // A field that is not too long in its columns, padded on its side.
-pub(crate) fn put_padded(columns: &mut [u8], field: &[u8], side: Side)
+pub fn put_padded(columns: &mut [u8], field: &[u8], side: Side)
     requires { ⌜ length (now field) ≤ length (now columns) ⌝ }
     ensures { λ _. ⌜ now (columns .exit) ≡ paddedField side (length (now (columns .entry))) (now (field .entry)) ⌝ }
 {

@@ -3,9 +3,12 @@ use crate::marks::count;
 use crate::marks::field_length;
 use columns::texts::byte;
 ghost use mathlib.Core.Path.{_≡_};
+ghost use mathlib.Core.Bool.{_&&_};
 ghost use Prim.Native.Nat.{_+_, _-_, _≤_};
+ghost use lib.Dec.{eqb};
 ghost use lib.ListN.{length, getD, drop};
-ghost use Rattle.semicolons.specs.Lines.{isLine, before, behind};
+ghost use Rattle.columns.specs.Texts.{howMany};
+ghost use Rattle.semicolons.specs.Lines.{isSemicolon, isFeed, lastByte, isLine, before, behind};
 
 // The last byte of a text; 0 where it has none.
 fn last_byte(line: &[u8]) -> u8
@@ -18,11 +21,11 @@ fn last_byte(line: &[u8]) -> u8
     byte(line, n - 1)
 }
 
-// Twenty-nine semicolons and one line feed, the last byte.
-pub fn is_line(line: &[u8]) -> bool
-    ensures { λ r. ⌜ r ≡ isLine (now (line .entry)) ⌝ }
+// So many semicolons and one line feed, the last byte.
+pub fn has_marks(line: &[u8], semicolons: usize) -> bool
+    ensures { λ r. ⌜ r ≡ (eqb (howMany isSemicolon (now (line .entry))) semicolons && (eqb (howMany isFeed (now (line .entry))) 1 && isFeed (lastByte (now (line .entry))))) ⌝ }
 {
-    if count(line, b';') != 29 {
+    if count(line, b';') != semicolons {
         return false;
     }
     if count(line, 10) != 1 {
@@ -31,8 +34,15 @@ pub fn is_line(line: &[u8]) -> bool
     last_byte(line) == 10
 }
 
+// The marks of a station's line.
+pub fn is_line(line: &[u8]) -> bool
+    ensures { λ r. ⌜ r ≡ isLine (now (line .entry)) ⌝ }
+{
+    has_marks(line, 29)
+}
+
 // The field that begins at a place of a line.
-pub(crate) fn field_at(line: &[u8], at: usize) -> &[u8]
+pub fn field_at(line: &[u8], at: usize) -> &[u8]
     requires { ⌜ at ≤ length (now line) ⌝ }
     ensures { λ r. ⌜ (now r ≡ before (drop at (now (line .entry)))) × (at + length (now r) ≤ length (now (line .entry))) × (drop (at + length (now r) + 1) (now (line .entry)) ≡ behind (drop at (now (line .entry)))) ⌝ }
 {
@@ -42,7 +52,7 @@ pub(crate) fn field_at(line: &[u8], at: usize) -> &[u8]
 }
 
 // Where the next field begins, behind one that ends at the given place.
-pub(crate) fn past(line: &[u8], end: usize) -> usize
+pub fn past(line: &[u8], end: usize) -> usize
     requires { ⌜ end ≤ length (now line) ⌝ }
     ensures { λ r. ⌜ (r ≤ length (now (line .entry))) × (drop r (now (line .entry)) ≡ drop (end + 1) (now (line .entry))) ⌝ }
 {

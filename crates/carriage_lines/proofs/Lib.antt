@@ -1,0 +1,5 @@
+pub mod GivenLaws
+pub mod PutLaws
+pub mod CallLaws
+pub mod Built
+pub mod Unique
