@@ -7,10 +7,11 @@
  * width 3, header code, lowest bad row or 0 (two bytes), number of bad rows (two bytes), "2B".
  * Numbers of two bytes have the high one first.
  *
- * Every function but desk_rules returns the number of its refusal, DESK_DONE (0) if there is
- * none. Where more than one refusal applies the lowest number is given, unless the function says
- * otherwise. A refused call changes no lent byte. The answers behind `code`, `rows`, `found`, `offset`
- * and `length` are always written; `code` is 0 with any refusal but DESK_REFUSED_RULE_BROKEN (9).
+ * Every function but desk_carriage_number and desk_rules returns the number of its refusal,
+ * DESK_DONE (0) if there is none. Where more than one refusal applies the lowest number is given,
+ * unless the function says otherwise. A refused call changes no lent byte. The answers behind
+ * `code`, `rows`, `found`, `offset` and `length` are always written; `code` is 0 with any refusal
+ * but DESK_REFUSED_RULE_BROKEN (9).
  *
  * Each pointer and the length after it are one lent slice. No pointer may be NULL, even where the
  * length is 0, and no two slices of a call may overlap. No pointer is kept after the call, and
@@ -51,10 +52,13 @@ enum desk_refusal {
     DESK_REFUSED_BUFFER_LENGTH = 7,      /* the buffer to write into is not 219 bytes */
     DESK_REFUSED_NO_SUCH_FIELD = 8,      /* stations have fields 1 to 30, the header 1 to 14 */
     DESK_REFUSED_RULE_BROKEN = 9,        /* a record or value breaks a rule; its code comes too */
-    DESK_REFUSED_NOT_A_LINE = 10,        /* not 29 semicolons and one line feed, the last byte */
+    DESK_REFUSED_NOT_A_LINE = 10,        /* not its semicolons and one line feed, the last byte */
     DESK_REFUSED_FIELD_TOO_LONG = 11,    /* a field of the line is longer than its columns */
     DESK_REFUSED_BUFFER_TOO_SHORT = 12,  /* the lent buffer is shorter than the line */
-    DESK_REFUSED_OLD_FORM_TOO_MANY = 13  /* an old form's sheet of more than 250 stations */
+    DESK_REFUSED_OLD_FORM_TOO_MANY = 13, /* an old form's sheet of more than 250 stations */
+    DESK_REFUSED_NOT_TWELVE_DIGITS = 14, /* the vehicle number has not twelve digits */
+    DESK_REFUSED_LAST_DIGIT_WRONG = 15,  /* the vehicle number's last digit is wrong */
+    DESK_REFUSED_NOT_MOBILE = 16         /* the defaults are not an accepted ML station */
 };
 
 /* What desk_verify finds. */
@@ -226,6 +230,29 @@ uint8_t desk_line_marks(const uint8_t *line, size_t line_length,
  */
 uint8_t desk_long_field(const uint8_t *line, size_t line_length,
                         size_t *number, size_t *length, size_t *most);
+
+/*
+ * Carriage repeaters: a mobile station named by the UIC number of its vehicle.
+ */
+
+/*
+ * Writes the station of a carriage into `record` in the one spelling: the station of the record
+ * `defaults`, with 9999_, the number and _R as its name, and with 1A, its unit, 8B1 and 13X as the
+ * line gives them, padded as in desk_list_in. The line is number;frequency;unit;power;13X and a
+ * line feed. 6 is asked of `defaults`, 10 asks for four semicolons, a number that is too long is
+ * 14, and 9 comes with the code of the station that is made.
+ * Refusals, in this order: 7, 6, 10, 11, 14, 15, 16, 9.
+ */
+uint8_t desk_carriage(const uint8_t *line, size_t line_length,
+                      const uint8_t *defaults, size_t defaults_length,
+                      uint8_t *record, size_t record_length, uint8_t *code);
+
+/*
+ * The vehicle number in a station's name of 20 bytes: returns its length, 12, and writes the
+ * offset at which it begins; both are 0 for any bytes that are not the name of a carriage, or
+ * where the number's last digit is wrong. This call has no refusal.
+ */
+size_t desk_carriage_number(const uint8_t *name, size_t name_length, size_t *offset);
 
 /*
  * The number of the rules that records are judged by: 1 for those of document 01, 2 since dates

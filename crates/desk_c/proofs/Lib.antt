@@ -4,3 +4,5 @@ pub mod ShownLaws
 pub mod ReasonLaws
 pub mod UniqueReasons
 pub mod OrderLaws
+pub mod CarriageLaws
+pub mod UniqueCarriages

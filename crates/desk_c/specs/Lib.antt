@@ -1,3 +1,4 @@
 pub mod Records
 pub mod Reasons
 pub mod Promises
+pub mod Carriages

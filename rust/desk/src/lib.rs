@@ -2,8 +2,10 @@
 //!
 //! A filing file is one header and n stations, 0 ≤ n ≤ 298, each a record of 219 bytes. Judging
 //! fills a sheet of 3n + 10 bytes; replacing puts a record in and mends the sheet; verifying tells
-//! whether a sheet that somebody else wrote is the one judged; showing finds a field; setting changes one value of a station; listing turns a station's record into a line of
-//! a semicolon list, or such a line into a record. A refused call changes no lent byte.
+//! whether a sheet that somebody else wrote is the one judged; showing finds a field; setting
+//! changes one value of a station; listing turns a station's record into a line of a semicolon
+//! list, or such a line into a record; a carriage's line and defaults make a record too. A refused
+//! call changes no lent byte.
 //!
 //! ```
 //! // One station, not filled in: its first broken rule is 3, the header's is 1.
@@ -383,6 +385,34 @@ pub struct LongField {
 pub fn long_field(line: &[u8]) -> Option<LongField> {
     let (_, number, length, most) = raw::long_field(line);
     (number > 0).then_some(LongField { number, length, most })
+}
+
+/// Writes the station of a carriage into `record` in the one spelling: the station of `defaults`
+/// with the name of the carriage, and with 1A, its unit, 8B1 and 13X as the line gives them. The
+/// line is `number;frequency;unit;power;13X` and a line feed. Refusals, in this order: 7, 6 (the
+/// defaults), 10, 11, 14, 15, 16, 9.
+///
+/// ```
+/// # let base = include_bytes!(concat!(env!("CARGO_MANIFEST_DIR"), "/station-s.txt"));
+/// let mut record = [0; 219];
+/// let line = b"318166502860;00456.50000;M;-10.0;AUT26000001001\n";
+/// // Those of a base station are no defaults.
+/// assert_eq!(desk::carriage(line, base, &mut record), Err(desk::Refusal::NotMobileDefaults));
+/// ```
+pub fn carriage(line: &[u8], defaults: &[u8], record: &mut [u8]) -> Result<(), Refusal> {
+    let (refusal, code) = raw::carriage(line, defaults, record);
+    answer(refusal, code, ())
+}
+
+/// The vehicle number in a station's name, where it holds one whose last digit is right.
+///
+/// ```
+/// assert_eq!(desk::carriage_number(b"9999_318166502860_R "), Some(&b"318166502860"[..]));
+/// assert_eq!(desk::carriage_number(b"9999_318166502861_R "), None);
+/// ```
+pub fn carriage_number(name: &[u8]) -> Option<&[u8]> {
+    let (digits, offset) = raw::carriage_number(name);
+    (digits > 0).then(|| &name[offset..offset + digits])
 }
 
 /// A value as the library is told of it; with a blank it does not look at the number.

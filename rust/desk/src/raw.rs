@@ -143,6 +143,16 @@ extern "C" {
         length: *mut usize,
         most: *mut usize,
     ) -> u8;
+    fn desk_carriage(
+        line: *const u8,
+        line_length: usize,
+        defaults: *const u8,
+        defaults_length: usize,
+        record: *mut u8,
+        record_length: usize,
+        code: *mut u8,
+    ) -> u8;
+    fn desk_carriage_number(name: *const u8, name_length: usize, offset: *mut usize) -> usize;
     fn desk_rules() -> u32;
 }
 
@@ -303,6 +313,32 @@ fn turn(call: Turn, file: &[u8], given: &[u8], lent: &mut [u8]) -> u8 {
     unsafe {
         call(file.as_ptr(), file.len(), given.as_ptr(), given.len(), lent.as_mut_ptr(), lent.len())
     }
+}
+
+/// `desk_carriage`: the refusal and the code.
+pub fn carriage(line: &[u8], defaults: &[u8], record: &mut [u8]) -> (u8, u8) {
+    let mut code = NO_CODE;
+    // SAFETY: the pointers are good for the lengths of their slices; `record` is borrowed alone.
+    let refusal = unsafe {
+        desk_carriage(
+            line.as_ptr(),
+            line.len(),
+            defaults.as_ptr(),
+            defaults.len(),
+            record.as_mut_ptr(),
+            record.len(),
+            &mut code,
+        )
+    };
+    (refusal, code)
+}
+
+/// `desk_carriage_number`: how many digits, and their offset.
+pub fn carriage_number(name: &[u8]) -> (usize, usize) {
+    let mut offset = NO_COUNT;
+    // SAFETY: the pointer is good for the length of its slice; the answer is a place of our own.
+    let digits = unsafe { desk_carriage_number(name.as_ptr(), name.len(), &mut offset) };
+    (digits, offset)
 }
 
 fn check(call: Check, record: &[u8]) -> (u8, u8) {

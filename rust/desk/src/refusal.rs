@@ -26,7 +26,8 @@ pub enum Refusal {
         /// The code of the first rule broken.
         code: u8,
     },
-    /// 10: the line has not twenty-nine semicolons and one line feed as its last byte.
+    /// 10: the line has not its semicolons, twenty-nine for a station and four for a carriage, and
+    /// one line feed as its last byte.
     NotALine,
     /// 11: a field of the line is longer than its columns.
     FieldTooLong,
@@ -34,6 +35,12 @@ pub enum Refusal {
     BufferTooShort,
     /// 13: a sheet of the old form for more than 250 stations.
     OldFormTooMany,
+    /// 14: the vehicle number has not twelve digits.
+    NotTwelveDigits,
+    /// 15: the last digit of the vehicle number is wrong.
+    LastDigitWrong,
+    /// 16: the defaults are not a station of class ML that breaks no rule.
+    NotMobileDefaults,
 }
 
 impl Refusal {
@@ -41,7 +48,7 @@ impl Refusal {
     ///
     /// # Panics
     ///
-    /// With a number above 13, which the library never gives.
+    /// With a number above 16, which the library never gives.
     pub(crate) fn from_numbers(number: u8, code: u8) -> Option<Refusal> {
         let refusal = match number {
             0 => return None,
@@ -58,6 +65,9 @@ impl Refusal {
             11 => Refusal::FieldTooLong,
             12 => Refusal::BufferTooShort,
             13 => Refusal::OldFormTooMany,
+            14 => Refusal::NotTwelveDigits,
+            15 => Refusal::LastDigitWrong,
+            16 => Refusal::NotMobileDefaults,
             _ => panic!("the library has no refusal {number}"),
         };
         Some(refusal)
@@ -84,6 +94,9 @@ impl Refusal {
             Refusal::FieldTooLong => 11,
             Refusal::BufferTooShort => 12,
             Refusal::OldFormTooMany => 13,
+            Refusal::NotTwelveDigits => 14,
+            Refusal::LastDigitWrong => 15,
+            Refusal::NotMobileDefaults => 16,
         }
     }
 }
@@ -100,10 +113,13 @@ impl fmt::Display for Refusal {
             Refusal::BufferLength => write!(f, "the buffer is not 219 bytes"),
             Refusal::NoSuchField => write!(f, "the record has no field with this number"),
             Refusal::RuleBroken { code } => write!(f, "rule {code} is broken"),
-            Refusal::NotALine => write!(f, "the line has not 29 semicolons and a line feed"),
+            Refusal::NotALine => write!(f, "the line has not its semicolons and one line feed"),
             Refusal::FieldTooLong => write!(f, "a field of the line is longer than its columns"),
             Refusal::BufferTooShort => write!(f, "the buffer is shorter than the line"),
             Refusal::OldFormTooMany => write!(f, "the old form has room for 250 stations"),
+            Refusal::NotTwelveDigits => write!(f, "the vehicle number has not twelve digits"),
+            Refusal::LastDigitWrong => write!(f, "the vehicle number's last digit is wrong"),
+            Refusal::NotMobileDefaults => write!(f, "the defaults are not an accepted ML station"),
         }
     }
 }
@@ -117,7 +133,7 @@ mod tests {
     #[test]
     fn numbers_are_kept() {
         assert_eq!(Refusal::from_numbers(0, 0), None);
-        for number in 1..=13 {
+        for number in 1..=16 {
             assert_eq!(Refusal::from_numbers(number, 5).map(Refusal::number), Some(number));
         }
         assert_eq!(Refusal::from_numbers(9, 5), Some(Refusal::RuleBroken { code: 5 }));

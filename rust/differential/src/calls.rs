@@ -110,6 +110,34 @@ impl Comparison {
         self.tally.refusal("long_field", field.0);
     }
 
+    /// Compares filing a carriage into a buffer that holds `to`; answers what the library left.
+    pub fn carriage(&mut self, line: &[u8], defaults: &[u8], to: &[u8]) -> Vec<u8> {
+        let (lent, usual) = (Lent::new(line), Lent::new(defaults));
+        let (mut ours, mut theirs) = (Lent::new(to), Lent::new(to));
+        let answer = raw::carriage(lent.part(), usual.part(), ours.part_mut());
+        let expected = oracle::carriage(line, defaults, theirs.part_mut());
+        let inputs = [line, defaults, to];
+        agree("carriage", answer, expected, &inputs);
+        agree_bytes("carriage", &ours, &theirs, &inputs);
+        untouched("carriage", &lent, line);
+        untouched("carriage", &usual, defaults);
+        if answer.0 != 0 {
+            untouched("carriage", &ours, to);
+        }
+        self.tally.refusal("carriage", answer.0);
+        ours.part().to_vec()
+    }
+
+    /// Compares the number in a name; answers how many digits it has.
+    pub fn carriage_number(&mut self, name: &[u8]) -> usize {
+        let lent = Lent::new(name);
+        let (digits, offset) = raw::carriage_number(lent.part());
+        agree("carriage_number", (digits, offset), oracle::carriage_number(name), &[name]);
+        untouched("carriage_number", &lent, name);
+        self.tally.refusal("carriage_number", digits as u8);
+        digits
+    }
+
     /// Compares a setter.
     pub fn set(&mut self, call: &Pair<Setter>, record: &[u8], filled: u8, number: i64) {
         let (mut ours, mut theirs) = (Lent::new(record), Lent::new(record));

@@ -1,8 +1,8 @@
 //! The desk library compared with the peer, call by call, on made input.
 //!
 //! Input is made by a generator with a fixed seed: fields in good spellings and near misses,
-//! records that break each rule in turn, damaged bytes, wrong lengths, lines of semicolon lists,
-//! and runs of replacements in files of up to 298 stations,
+//! records that break each rule in turn, damaged bytes, wrong lengths, lines of semicolon lists
+//! and of carriages, and runs of replacements in files of up to 298 stations,
 //! whose sheets are turned to the old form and back. Each call is made of both on equal
 //! bytes; refusals, codes, counts and every lent byte must be equal after it, and refused calls
 //! must leave all bytes.
@@ -10,6 +10,7 @@
 #![forbid(unsafe_code)]
 
 mod calls;
+mod carriages;
 mod cases;
 mod fields;
 mod lines;
@@ -31,6 +32,9 @@ const SEED: u64 = 0x2a_219_250;
 /// How many single records there are to one run of replacements.
 const CASES_PER_RUN: usize = 200;
 
+/// How many single records there are to one carriage.
+const CASES_PER_CARRIAGE: usize = 4;
+
 /// How many runs of replacements share their stations.
 const RUNS_PER_POOL: usize = 100;
 
@@ -48,6 +52,11 @@ pub fn run(count: usize) -> Tally {
     for index in 0..count {
         cases::case(&mut comparison, &mut random, index);
         lines::case(&mut comparison, &mut random, index);
+    }
+    let depot = carriages::Depot::new(&mut random);
+    depot.sweep(&mut comparison);
+    for index in 0..count.div_ceil(CASES_PER_CARRIAGE) {
+        depot.case(&mut comparison, &mut random, index);
     }
     let mut pool = runs::Pool::new(&mut random);
     for index in 0..count.div_ceil(CASES_PER_RUN) {

@@ -84,18 +84,18 @@ fn spelled(random: &mut Random, record: &Record) -> Vec<u8> {
     joined(&fields)
 }
 
-fn trimmed_start(field: &[u8]) -> &[u8] {
+pub fn trimmed_start(field: &[u8]) -> &[u8] {
     let first = field.iter().position(|&byte| byte != b' ').unwrap_or(field.len());
     &field[first..]
 }
 
-fn trimmed_end(field: &[u8]) -> &[u8] {
+pub fn trimmed_end(field: &[u8]) -> &[u8] {
     let end = field.iter().rposition(|&byte| byte != b' ').map_or(0, |last| last + 1);
     &field[..end]
 }
 
 /// Damages a line in one way, now and then in several.
-fn damage(random: &mut Random, line: &mut Vec<u8>) {
+pub fn damage(random: &mut Random, line: &mut Vec<u8>) {
     let place = random.below(line.len());
     match random.below(14) {
         0 => line[place] = random.pick(BORDER_BYTES),

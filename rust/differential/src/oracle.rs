@@ -115,6 +115,22 @@ pub fn long_field(line: &[u8]) -> (u8, usize, usize, usize) {
         .map_or((0, 0, 0, 0), |(number, length, most)| (11, number, length, most))
 }
 
+/// `desk_carriage`.
+pub fn carriage(line: &[u8], defaults: &[u8], record: &mut [u8]) -> (u8, u8) {
+    if record.len() != RECORD_LENGTH {
+        return numbers::<()>(&Err(Refusal::BufferLength));
+    }
+    let built = peer::carriages::station(line, defaults);
+    numbers(&built.and_then(|station| station.write(record)))
+}
+
+/// `desk_carriage_number`.
+pub fn carriage_number(name: &[u8]) -> (usize, usize) {
+    let name = <&[u8; 20]>::try_from(name).ok();
+    let range = name.and_then(peer::carriages::number_in).unwrap_or(0..0);
+    (range.len(), range.start)
+}
+
 /// A value as the boundary states it: blank where `filled` is 0.
 fn stated(filled: u8, number: i64) -> Option<i64> {
     (filled != 0).then_some(number)

@@ -24,6 +24,8 @@ const REFUSALS: &[(&str, &[u8])] = &[
     ("list_in", &[0, 7, 9, 10, 11]),
     ("line_marks", &[0, 10]),
     ("long_field", &[0, 11]),
+    ("carriage", &[0, 6, 7, 9, 10, 11, 14, 15, 16]),
+    ("carriage_number", &[0, 12]), // how many digits; it has no refusal
 ];
 
 /// Counts of answers, by what was asked and what was given.

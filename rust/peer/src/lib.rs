@@ -1,9 +1,9 @@
-//! Filing files of document 01, and wishes 1, 2, 4, 10 and 12 of 02, written a second time from the
-//! papers alone.
+//! Filing files of document 01, and wishes 1, 2, 4, 6, 10 and 12 of 02, written a second time from
+//! the papers alone.
 //!
 //! A filing file is one header and up to 298 stations, each a record of 219 bytes. This crate
 //! reads and writes records, judges a file into a sheet, replaces a record, shows a field and
-//! turns stations into semicolon lines and back. It shares no line with the proved library; the
+//! turns stations into semicolon lines and back, and carriages' lines into stations. It shares no line with the proved library; the
 //! two are compared on random input.
 //!
 //! ```
@@ -17,6 +17,7 @@
 
 #![forbid(unsafe_code)]
 
+pub mod carriages;
 mod columns;
 mod file;
 mod header;

@@ -35,19 +35,34 @@ pub fn write_line(station: &Station, line: &mut [u8]) -> Result<usize, Refusal> 
 
 /// Reads a station that breaks no rule from a line, its fields in any accepted spelling.
 pub fn read_line(line: &[u8]) -> Result<Station, Refusal> {
-    let fields = line.strip_suffix(&[END]).ok_or(Refusal::NotALine)?;
-    let semicolons = fields.iter().filter(|&&byte| byte == SEPARATOR).count();
-    if fields.contains(&END) || semicolons != STATION_FIELDS.len() - 1 {
-        return Err(Refusal::NotALine);
-    }
+    let fields: [&[u8]; STATION_FIELDS.len()] = fields_in(line)?;
     let mut record = [b' '; RECORD_LENGTH];
-    for (index, field) in fields.split(|&byte| byte == SEPARATOR).enumerate() {
-        let [first, length] = STATION_FIELDS[index];
-        let padding = length.checked_sub(field.len()).ok_or(Refusal::FieldTooLong)?;
-        let start = first - 1 + if padded_left(index + 1) { padding } else { 0 };
-        record[start..start + field.len()].copy_from_slice(field);
+    for (index, field) in fields.iter().enumerate() {
+        put_field(&mut record, index + 1, field)?;
     }
     Station::read(&record)
+}
+
+/// The fields of a line that has so many, and one line feed as its last byte.
+pub(crate) fn fields_in<const COUNT: usize>(line: &[u8]) -> Result<[&[u8]; COUNT], Refusal> {
+    let fields = line.strip_suffix(&[END]).ok_or(Refusal::NotALine)?;
+    let semicolons = fields.iter().filter(|&&byte| byte == SEPARATOR).count();
+    if fields.contains(&END) || semicolons != COUNT - 1 {
+        return Err(Refusal::NotALine);
+    }
+    let mut parts = fields.split(|&byte| byte == SEPARATOR);
+    Ok(std::array::from_fn(|_| parts.next().unwrap_or_default()))
+}
+
+/// Puts a field of a line into its columns, padded on its side.
+pub(crate) fn put_field(record: &mut Record, code: usize, field: &[u8]) -> Result<(), Refusal> {
+    let [first, length] = STATION_FIELDS[code - 1];
+    let padding = length.checked_sub(field.len()).ok_or(Refusal::FieldTooLong)?;
+    let columns = &mut record[first - 1..][..length];
+    columns.fill(b' ');
+    let start = if padded_left(code) { padding } else { 0 };
+    columns[start..][..field.len()].copy_from_slice(field);
+    Ok(())
 }
 
 /// How many semicolons and line feeds some bytes have, and whether they end in a line feed.

@@ -1,4 +1,4 @@
-//! The reasons for which a call does nothing, by their numbers in 01 and in wishes 1 and 4 of 02.
+//! The reasons for which a call does nothing, by their numbers in 01 and in wishes 1, 4 and 6 of 02.
 
 use std::fmt;
 
@@ -31,6 +31,12 @@ pub enum Refusal {
     BufferTooShort,
     /// 13: an old form with more than 250 stations.
     OldFormTooMany,
+    /// 14: the vehicle number has not twelve digits.
+    NotTwelveDigits,
+    /// 15: the last digit of the vehicle number is wrong.
+    LastDigitWrong,
+    /// 16: the defaults are not an accepted ML station.
+    NotMobileDefaults,
 }
 
 impl Refusal {
@@ -50,6 +56,9 @@ impl Refusal {
             Refusal::FieldTooLong => 11,
             Refusal::BufferTooShort => 12,
             Refusal::OldFormTooMany => 13,
+            Refusal::NotTwelveDigits => 14,
+            Refusal::LastDigitWrong => 15,
+            Refusal::NotMobileDefaults => 16,
         }
     }
 
