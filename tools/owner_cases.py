@@ -30,6 +30,10 @@ SEVEN = filing(RECORDS)
 LIST = b"".join(LINES)
 
 
+# An owner's defaults for carriages: an accepted ML station.
+DEPOT = b"00456.50000;M;2;ML;CP;L;1;01032021;9999_DEPOT;AUT;016E220548N1200;00010;;5M00G7W;000.0;E;;;V;00.0;0003;000ND00;000ND00;00466.50000;M;" + b" " * 50 + b";B;;;AUT2311AB01A001\n"
+
+
 def changed(k, **fields):
     """Station S under reference k with some fields changed, as a line and as a record."""
     changes = {name.lstrip("_"): text for name, text in fields.items()}
@@ -180,6 +184,15 @@ def cases():
     yield "verify_an_old_sheet", 1, "verify my sheet", {"my": SEVEN, "sheet": bytes(14) + b"\x00\x16\x02\x00\x00\x002A"}, {}
     yield "verify_no_filing", 1, "verify my sheet", {"my": SEVEN[:-1], "sheet": sheet}, {}
     yield "verify_both_on_standard_input", 2, "verify - -", {}, {}
+    # Carriages: the defaults, and a line for each.
+    two = {"carriages.csv": DEPOT + b"318166502860;456.5;M;-10.0;AUT2611AB01A001\n318166502878;456.51250;M;-10.0;AUT2611AB01A002\n"}
+    yield "carriages_listed", 0, "carriages carriages.csv", two, {}
+    yield "carriages_as_records", 0, "carriages --records - <carriages.csv", two, {}
+    yield "carriages_none", 1, "carriages carriages.csv", {"carriages.csv": DEPOT}, {}
+    yield "carriages_base_defaults", 1, "carriages carriages.csv", {"carriages.csv": two["carriages.csv"].replace(b";ML;", b";FB;").replace(b";00010;", b";00000;")}, {}
+    bad = b"318166502861;456.5;M;-10.0;AUT2611AB01A001\n31 81 665 0286-0;456.5;M;-10.0;AUT2611AB01A002\n318166502860;456.5;M;-10.0\n"
+    bad += b"318166502860;000456.500000;M;-10.0;AUT2611AB01A002\n318166502860;456.5;m;-10.0;AUT2611AB01A002\n318166502860;;;;AUT2611AB01A001\n"
+    yield "carriages_refused", 1, "carriages carriages.csv", {"carriages.csv": DEPOT + bad}, {}
 
 
 def main():

@@ -7,6 +7,7 @@
 #![forbid(unsafe_code)]
 
 pub mod asked;
+pub mod carriages;
 pub mod changes;
 pub mod cleaning;
 pub mod filings;

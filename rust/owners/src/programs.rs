@@ -10,6 +10,7 @@ use std::process::ExitCode;
 use desk::{Finding, LongField, Refusal, RECORD_LENGTH};
 
 use crate::asked::{plain, read, Asked};
+use crate::carriages;
 use crate::changes::Changes;
 use crate::cleaning::clean;
 use crate::filings::Filing;
@@ -68,6 +69,12 @@ const PROGRAMS: &[Program] = &[
         options: &[],
         usage: include_str!("../../../tools/verify"),
         act: verify,
+    },
+    Program {
+        name: "carriages",
+        options: &["--records"],
+        usage: include_str!("../../../tools/carriages"),
+        act: carriages,
     },
     Program {
         name: "titles",
@@ -187,11 +194,20 @@ fn refused(why: &str) -> Trouble {
     Trouble::Refused(format!("nothing is written: {why}"))
 }
 
+/// A refused line's number, its refusal and the code that comes with it.
+fn named(number: usize, refusal: Refusal) -> String {
+    let code = match refusal {
+        Refusal::RuleBroken { code } => format!(" code {code}"),
+        _ => String::new(),
+    };
+    format!("line {number} refused {}{code}\n", refusal.number())
+}
+
 /// A refused line, as list_in names it, and words behind it.
 fn told(number: usize, line: &[u8], refusal: Refusal) -> String {
-    let mut text = format!("line {number} refused {}", refusal.number());
+    let mut text = named(number, refusal);
+    text.pop();
     match refusal {
-        Refusal::RuleBroken { code } => text += &format!(" code {code}"),
         Refusal::NotALine => {
             let marks = desk::line_marks(line);
             let ended = if marks.ended { "yes" } else { "no" };
@@ -346,6 +362,30 @@ fn verify(asked: &Asked) -> Outcome<()> {
             put(format!("refused {}\n", refusal.number()).as_bytes())?;
             Err(Trouble::Refused(sheets::why(&file, &sheet, refusal)))
         }
+    }
+}
+
+fn carriages(asked: &Asked) -> Outcome<()> {
+    let [path] = asked.exactly()?;
+    let text = read(path)?;
+    let depot = carriages::take_in(&text);
+    for &(number, line, refusal) in &depot.refused {
+        if number == 1 {
+            eprint!("{}", told(number, line, refusal));
+        } else {
+            eprint!("{}", named(number, refusal));
+            eprintln!("    {}", carriages::explain(line, refusal));
+        }
+    }
+    let accepted = depot.records.len() / RECORD_LENGTH;
+    match depot.refused.len() {
+        0 if accepted == 0 => Err(Trouble::Refused("there is no carriage".to_string())),
+        0 if asked.has("--records") => put(&depot.records),
+        0 => {
+            let list = carriages::listed(&depot.records);
+            put(&list.map_err(|refusal| Trouble::Refused(refusal.to_string()))?)
+        }
+        lines => Err(Trouble::Refused(format!("nothing is printed: {} refused", are(lines)))),
     }
 }
 
