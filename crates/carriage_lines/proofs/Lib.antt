@@ -3,3 +3,4 @@ pub mod PutLaws
 pub mod CallLaws
 pub mod Built
 pub mod Unique
+pub mod Examples
