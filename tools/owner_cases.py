@@ -100,7 +100,7 @@ def cases():
     yield "list_out_of_a_bad_station", 1, "list_out --titles my", {"my": broken}, {}
     yield "list_out_of_no_filing", 1, "list_out --titles my", {"my": SEVEN[:-1]}, {}
     yield "list_out_of_a_header_alone", 1, "list_out my", {"my": header(0)}, {}
-    for tool, words in (("desk", ""), ("list_out", ""), ("list_in", ""), ("clean_list", ""), ("filing", ""), ("changes", "my "), ("verify", "my "), ("file_list", "my list.csv ")):
+    for tool, words in (("desk", ""), ("list_out", ""), ("list_in", ""), ("clean_list", ""), ("filing", ""), ("carriages", ""), ("changes", "my "), ("verify", "my "), ("file_list", "my list.csv ")):
         yield tool + "_on_a_directory", 2, "mkdir folder; %s %sfolder; status=$?; rmdir folder; exit $status" % (tool, words), some, {}
         yield tool + "_on_no_file", 2, "%s %snowhere/none" % (tool, words), some, {}
         yield tool + "_with_an_unknown_option", 2, "%s --all %smy" % (tool, words), some, {}

@@ -4,19 +4,19 @@ use mathlib.Core.Bool.{Bool, not, _&&_}
 use mathlib.Core.List.{List, [], _∷_, _++_}
 use lib.ListN.{take, drop, getD}
 use lib.Dec.{eqb}
-use Rattle.columns.specs.Texts.{bytes, same, howMany}
+use Rattle.columns.specs.Texts.{bytes, same}
 use Rattle.basics.specs.Fields.{at, joined}
 use Rattle.station.specs.Places.{stationPlaces, fieldsOf}
 use Rattle.station.specs.Codes.{stationCode}
 use Rattle.vehicles.specs.Names.{nameOf}
 use Rattle.semicolons.specs.Fields.{stationSides, paddedFields}
-use Rattle.semicolons.specs.Lines.{isSemicolon, isFeed, before, behind, lastByte}
+use Rattle.semicolons.specs.Lines.{before, behind, markedWith}
 use Rattle.semicolons.specs.declared.Side.{Side}
 use Rattle.semicolons.specs.declared.Side.the-variants as side
 
 -- A carriage's line has four semicolons and one line feed, the last byte.
 unfoldable pub isCarriageLine : List ℕ → Bool
-isCarriageLine t = eqb (howMany isSemicolon t) 4 && (eqb (howMany isFeed t) 1 && isFeed (lastByte t))
+isCarriageLine t = markedWith 4 t
 
 -- What is left of a line behind its first k fields,
 unfoldable pub behindFields : ℕ → List ℕ → List ℕ

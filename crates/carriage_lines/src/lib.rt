@@ -8,7 +8,7 @@ use reading::typed::read_station;
 use semicolons::Side;
 use semicolons::padding::put_padded;
 use semicolons::splitting::field_at;
-use semicolons::splitting::has_marks;
+use semicolons::splitting::is_marked;
 use semicolons::splitting::past;
 use vehicles::digits::check_number;
 use vehicles::names::name_of;
@@ -85,7 +85,7 @@ fn check_given(line: &[u8], defaults: &[u8]) -> Outcome
     if defaults.len() != 219 {
         return Outcome::RecordLength;
     }
-    if !has_marks(line, 4) {
+    if !is_marked(line, 4) {
         return Outcome::NotALine;
     }
     if !fields_fit(line) {

@@ -57,9 +57,13 @@ lineFields t = split 30 t
 abbrev pub lastByte : List ℕ → ℕ
 lastByte t = getD t (length t - 1) 0
 
--- A line has twenty-nine semicolons and one line feed, the last byte.
+-- So many semicolons and one line feed, the last byte.
+abbrev pub markedWith : ℕ → List ℕ → Bool
+markedWith n t = eqb (howMany isSemicolon t) n && (eqb (howMany isFeed t) 1 && isFeed (lastByte t))
+
+-- A line has twenty-nine semicolons.
 unfoldable pub isLine : List ℕ → Bool
-isLine t = eqb (howMany isSemicolon t) 29 && (eqb (howMany isFeed t) 1 && isFeed (lastByte t))
+isLine t = markedWith 29 t
 
 -- The longest one whose fields are no longer than their columns: 219 columns, 29 semicolons and the line feed.
 abbrev pub longestLine : ℕ

@@ -3,12 +3,9 @@ use crate::marks::count;
 use crate::marks::field_length;
 use columns::texts::byte;
 ghost use mathlib.Core.Path.{_≡_};
-ghost use mathlib.Core.Bool.{_&&_};
 ghost use Prim.Native.Nat.{_+_, _-_, _≤_};
-ghost use lib.Dec.{eqb};
 ghost use lib.ListN.{length, getD, drop};
-ghost use Rattle.columns.specs.Texts.{howMany};
-ghost use Rattle.semicolons.specs.Lines.{isSemicolon, isFeed, lastByte, isLine, before, behind};
+ghost use Rattle.semicolons.specs.Lines.{before, behind, markedWith, isLine};
 
 // The last byte of a text; 0 where it has none.
 fn last_byte(line: &[u8]) -> u8
@@ -22,8 +19,8 @@ fn last_byte(line: &[u8]) -> u8
 }
 
 // So many semicolons and one line feed, the last byte.
-pub fn has_marks(line: &[u8], semicolons: usize) -> bool
-    ensures { λ r. ⌜ r ≡ (eqb (howMany isSemicolon (now (line .entry))) semicolons && (eqb (howMany isFeed (now (line .entry))) 1 && isFeed (lastByte (now (line .entry))))) ⌝ }
+pub fn is_marked(line: &[u8], semicolons: usize) -> bool
+    ensures { λ r. ⌜ r ≡ markedWith semicolons (now (line .entry)) ⌝ }
 {
     if count(line, b';') != semicolons {
         return false;
@@ -38,7 +35,7 @@ pub fn has_marks(line: &[u8], semicolons: usize) -> bool
 pub fn is_line(line: &[u8]) -> bool
     ensures { λ r. ⌜ r ≡ isLine (now (line .entry)) ⌝ }
 {
-    has_marks(line, 29)
+    is_marked(line, 29)
 }
 
 // The field that begins at a place of a line.

@@ -13,7 +13,7 @@ pub struct Depot<'text> {
 }
 
 /// Takes in the defaults and the carriages; where the defaults' line is refused, nothing else is
-/// asked. A good carriage behind 250 records is refused with 1.
+/// asked. A good carriage behind 298 records is refused with 1.
 pub fn take_in(text: &[u8]) -> Depot<'_> {
     let mut depot = Depot { records: Vec::new(), refused: Vec::new() };
     let mut rows = lines(text).zip(1..);
@@ -73,7 +73,7 @@ pub fn explain(line: &[u8], refusal: Refusal) -> String {
             "the defaults in line 1 are no ML station: 6A has to be ML".to_string()
         }
         Refusal::FileTooLong => {
-            "a filing has at most 250 stations; this carriage is one more".to_string()
+            "a filing has at most 298 stations; this carriage is one more".to_string()
         }
         Refusal::RuleBroken { code } => {
             format!("the carriage's station breaks rule {code}; docs/RULES.md says it in words")

@@ -20,15 +20,15 @@ returns c =
     let a = c .before .before .before .args in
     not-a-record (now (a .line)) (now (a .defaults)) (c .if1 .taken)
 
-has-marks-requires : tie.Need-has-marks-requires
-has-marks-requires c κs = search needs
+is-marked-requires : tie.Need-is-marked-requires
+is-marked-requires c κs = search needs
 
 returns-2 : tie.Need-returns-2
 returns-2 c =
     let a = c .before .before .before .before .before .args in
     let t = now (a .line) in
     let d = now (a .defaults) in
-    let marked : isCarriageLine t ≡ false = sym (c .before .has-marks .ensures ∙ marks-are t) ∙ not-true _ (c .if2 .taken) in
+    let marked : isCarriageLine t ≡ false = sym (c .before .is-marked .ensures ∙ marks-are t) ∙ not-true _ (c .if2 .taken) in
     not-marked t d (c .before .before .if1 .left) marked
 
 fields-fit-requires : tie.Need-fields-fit-requires
@@ -39,7 +39,7 @@ returns-3 c =
     let a = c .before .before .before .before .before .before .before .args in
     let t = now (a .line) in
     let d = now (a .defaults) in
-    let marked : isCarriageLine t ≡ true = sym (c .before .before .before .has-marks .ensures ∙ marks-are t) ∙ not-false _ (c .before .before .if2 .left) in
+    let marked : isCarriageLine t ≡ true = sym (c .before .before .before .is-marked .ensures ∙ marks-are t) ∙ not-false _ (c .before .before .if2 .left) in
     let short : noneLonger ownPlaces (ownFields t) ≡ false = sym (c .before .fields-fit .ensures) ∙ not-true _ (c .if3 .taken) in
     long-own t d (c .before .before .before .before .if1 .left) marked short
 
@@ -57,7 +57,7 @@ returns-4 c =
     let a = c .before .before .before .before .before .before .before .before .before .before .before .args in
     let t = now (a .line) in
     let d = now (a .defaults) in
-    let marked : isCarriageLine t ≡ true = sym (c .before .before .before .before .before .before .before .has-marks .ensures ∙ marks-are t) ∙ not-false _ (c .before .before .before .before .before .before .if2 .left) in
+    let marked : isCarriageLine t ≡ true = sym (c .before .before .before .before .before .before .before .is-marked .ensures ∙ marks-are t) ∙ not-false _ (c .before .before .before .before .before .before .if2 .left) in
     let short : noneLonger ownPlaces (ownFields t) ≡ true = sym (c .before .before .before .before .before .fields-fit .ensures) ∙ not-false _ (c .before .before .before .before .if3 .left) in
     let checked = c .before .before .check-number .ensures ∙ ap (λ (x : List ℕ). firstRefusal (numberTests x)) (c .before .before .before .field-after .ensures) in
     wrong-number t d (c .before .before .before .before .before .before .before .before .if1 .left) marked short _ checked (sym (c .before .is-done .ensures) ∙ not-true _ (c .if4 .taken))
@@ -70,7 +70,7 @@ returns-5 c =
     let a = c .before .before .before .before .before .before .before .before .before .before .before .before .before .args in
     let t = now (a .line) in
     let d = now (a .defaults) in
-    let marked : isCarriageLine t ≡ true = sym (c .before .before .before .before .before .before .before .before .before .has-marks .ensures ∙ marks-are t) ∙ not-false _ (c .before .before .before .before .before .before .before .before .if2 .left) in
+    let marked : isCarriageLine t ≡ true = sym (c .before .before .before .before .before .before .before .before .before .is-marked .ensures ∙ marks-are t) ∙ not-false _ (c .before .before .before .before .before .before .before .before .if2 .left) in
     let short : noneLonger ownPlaces (ownFields t) ≡ true = sym (c .before .before .before .before .before .before .before .fields-fit .ensures) ∙ not-false _ (c .before .before .before .before .before .before .if3 .left) in
     let checked = c .before .before .before .before .check-number .ensures ∙ ap (λ (x : List ℕ). firstRefusal (numberTests x)) (c .before .before .before .before .before .field-after .ensures) in
     let right = went-on checked (c .before .before .before .is-done .ensures) (c .before .before .if4 .left) in
@@ -81,7 +81,7 @@ returns-6 c =
     let a = c .before .before .before .before .before .before .before .before .before .before .before .before .before .args in
     let t = now (a .line) in
     let d = now (a .defaults) in
-    let marked : isCarriageLine t ≡ true = sym (c .before .before .before .before .before .before .before .before .before .has-marks .ensures ∙ marks-are t) ∙ not-false _ (c .before .before .before .before .before .before .before .before .if2 .left) in
+    let marked : isCarriageLine t ≡ true = sym (c .before .before .before .before .before .before .before .before .before .is-marked .ensures ∙ marks-are t) ∙ not-false _ (c .before .before .before .before .before .before .before .before .if2 .left) in
     let short : noneLonger ownPlaces (ownFields t) ≡ true = sym (c .before .before .before .before .before .before .before .fields-fit .ensures) ∙ not-false _ (c .before .before .before .before .before .before .if3 .left) in
     let checked = c .before .before .before .before .check-number .ensures ∙ ap (λ (x : List ℕ). firstRefusal (numberTests x)) (c .before .before .before .before .before .field-after .ensures) in
     let right = went-on checked (c .before .before .before .is-done .ensures) (c .before .before .if4 .left) in
@@ -92,7 +92,7 @@ check-given-spec =
     tie.close
     (tie.spec
     returns
-    has-marks-requires
+    is-marked-requires
     returns-2
     fields-fit-requires
     returns-3

@@ -4,12 +4,12 @@ use borrow.Author.Needs.{needs}
 use Rattle.semicolons.proofs.splitting.is_line.Statement.{statement}
 use Rattle.semicolons.proofs.splitting.is_line.Tie as tie
 
-has-marks-requires : tie.Need-has-marks-requires
-has-marks-requires c κs = search needs
+is-marked-requires : tie.Need-is-marked-requires
+is-marked-requires c κs = search needs
 
 returns : tie.Need-returns
 unfolding isLine
-returns c = c .has-marks .ensures
+returns c = c .is-marked .ensures
 
 pub is-line-spec : {M : Type 1} → statement M
-is-line-spec = tie.close (tie.spec has-marks-requires returns)
+is-line-spec = tie.close (tie.spec is-marked-requires returns)

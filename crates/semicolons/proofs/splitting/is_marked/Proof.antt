@@ -1,8 +1,8 @@
--- `semicolons::splitting::has_marks` meets its contract.
+-- `semicolons::splitting::is_marked` meets its contract.
 use borrow.Author.Tests.{eq-eqb, ne-eqb}
 use borrow.Author.Needs.{needs}
-use Rattle.semicolons.proofs.splitting.has_marks.Statement.{statement}
-use Rattle.semicolons.proofs.splitting.has_marks.Tie as tie
+use Rattle.semicolons.proofs.splitting.is_marked.Statement.{statement}
+use Rattle.semicolons.proofs.splitting.is_marked.Tie as tie
 
 count-requires : tie.Need-count-requires
 count-requires c κs = search needs
@@ -23,7 +23,7 @@ returns-3 : tie.Need-returns-3
 returns-3 c =
     rw (← c .before .before .before .before .count .ensures, eq-eqb _ _ (c .before .before .before .if1 .left), ← c .before .before .count2 .ensures, eq-eqb _ _ (c .before .if2 .left), ← c .last-byte .ensures)
 
-pub has-marks-spec : {M : Type 1} → statement M
-has-marks-spec =
+pub is-marked-spec : {M : Type 1} → statement M
+is-marked-spec =
     tie.close
     (tie.spec count-requires returns count-requires-2 returns-2 last-byte-requires returns-3)
