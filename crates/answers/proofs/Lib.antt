@@ -1,1 +1,2 @@
 pub mod EndingLaws
+pub mod Unique

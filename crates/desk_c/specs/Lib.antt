@@ -1,4 +1,0 @@
-pub mod Records
-pub mod Reasons
-pub mod Promises
-pub mod Carriages

@@ -1,7 +1,0 @@
-// The library for callers in C and Rust: functions on numbers and lent bytes, under names with the prefix `desk_`.
-pub mod carriages;
-pub mod listing;
-pub mod reasons;
-pub mod records;
-pub mod rules;
-pub mod sheets;

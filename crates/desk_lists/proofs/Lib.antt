@@ -1,0 +1,5 @@
+pub mod ReasonLaws
+pub mod CarriageLaws
+pub mod Unique
+pub mod UniqueReasons
+pub mod UniqueCarriages

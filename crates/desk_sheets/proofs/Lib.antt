@@ -1,0 +1,3 @@
+pub mod ShownLaws
+pub mod OrderLaws
+pub mod Unique
