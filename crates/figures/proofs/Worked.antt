@@ -8,7 +8,7 @@ use Rattle.days.specs.Dates.{dateRule, dateIn, dateOf, dayGood, dayOf, dateGood
 use Rattle.formats.specs.Tenths.{tenthsGood, tenthsOf, tenthsFit, spellTenths}
 use Rattle.frequencies.specs.Frequencies.{amountGood, unitGood, unitOf, frequencyOf, frequencyFits, unitLetter, spellAmount, spellUnit}
 use Rattle.distances.specs.Distances.{radiusOf, groundOf, heightGood, heightOf, radiusFits, groundFits, heightFits, spellRadius, spellGround, spellHeight}
-use Rattle.positions.specs.Positions.{arcSeconds, arcGood, arcOf, positionGood, positionOf, positionFits, spellArc, spellPosition}
+use Rattle.positions.specs.Positions.{arcSeconds, arcGood, arcOf, positionGood, positionOf, locatedOf, positionFits, spellArc, spellPosition}
 use Rattle.emissions.specs.Emission.{bandwidthGood, detailGood, emissionGood}
 use Rattle.remarks.specs.Remarks.{cellGood, installationGood, remarksGood}
 use Rattle.fields.specs.Rows.{_&_}
@@ -30,14 +30,13 @@ use Rattle.header.specs.Rules.{headerRules}
 use Rattle.header.specs.Codes.{headerValue, headerCode, filedHeaderCode}
 use Rattle.files.specs.Files.{stations, recordAt, withRecord, tooLong, notRecords, placesOf, fieldAt, fieldCount}
 use Rattle.files.specs.Calls.{showOutcome, shownField}
-use Rattle.stations.specs.Stations.{codeAt, referenceAt}
+use Rattle.stations.specs.Stations.{codeAt, referenceAt, siteAt, positionAt, groundAt}
 use Rattle.forms.specs.Forms.{rowAt, badAt, trailerOf, closed, headAt, lowestAt, foundAt, fitsForm}
+use Rattle.clashes.specs.Clashes.{samePlace, standAlike, clashing, clashAt}
 use Rattle.sheet.specs.Sheets.{twinAt, rowOf, judgedSheet, sheetOf}
 use Rattle.mending.specs.Replacing.{touched, mendedRow, writes, rowsWritten}
 use Rattle.mending.specs.Replacing as replacing
 use Rattle.replacing.specs.Calls.{replaceOutcome, replacedSheet, replacedRows}
-use Rattle.turning.specs.Turning.{turnedRow, turned}
-use Rattle.turning.specs.Calls.{turnOutcome, turnedInto}
 use Rattle.sheet.specs.Calls.{judgeOutcome}
 use Rattle.verifying.specs.Verifying.{alike, compared, findingOf}
 use Rattle.basics.specs.Outcomes.{refusal, codeWith, ifDone, firstRefusal}
@@ -45,7 +44,7 @@ use Rattle.figures.specs.Figures.{FigureHolds}
 use Rattle.figures.specs.Worked.{Worked}
 
 pub worked : Worked
-unfolding FigureHolds among isHex isNarrow isText isName skip trimmed every howMany each byteGood same oneOf leading numberFrom wholeDigits wholeOf unsigned signedOf fractionOf magnitudeOf decimalOf dateRule dateIn dateOf dayGood dayOf tenthsGood tenthsOf amountGood unitGood unitOf frequencyOf radiusOf groundOf heightGood heightOf arcSeconds arcGood arcOf positionGood positionOf bandwidthGood detailGood emissionGood cellGood installationGood remarksGood firstBroken fieldsOf fieldRules roundAntenna betweenRules stationOf valueOf stationCode isMail textGood dateGood serialGood serialOf headerOf headerFields headerRules headerValue headerCode filedHeaderCode stations recordAt withRecord referenceAt codeAt tooLong notRecords placesOf fieldAt fieldCount twinAt rowOf rowAt badAt trailerOf closed judgedSheet sheetOf headAt fitsForm touched mendedRow replacing.mendedSheet writes rowsWritten refusal codeWith ifDone firstRefusal replaceOutcome replacedSheet replacedRows turnedRow turned turnOutcome turnedInto lowestAt foundAt showOutcome shownField frequencyFits dayFits radiusFits groundFits heightFits positionFits tenthsFit typedRules typedCode spellDigits spellMagnitude spellDecimal spellSigned spellDate spellDay spellTenths unitLetter spellAmount spellUnit spellRadius spellGround spellHeight spellArc spellPosition stationPieces spellStation trimmedField paddedField lineOf before behind split lineFields isLine lines.recordOf lineOutcome stationInLine alike compared findingOf judgeOutcome
+unfolding FigureHolds among isHex isNarrow isText isName skip trimmed every howMany each byteGood same oneOf leading numberFrom wholeDigits wholeOf unsigned signedOf fractionOf magnitudeOf decimalOf dateRule dateIn dateOf dayGood dayOf tenthsGood tenthsOf amountGood unitGood unitOf frequencyOf radiusOf groundOf heightGood heightOf arcSeconds arcGood arcOf positionGood positionOf bandwidthGood detailGood emissionGood cellGood installationGood remarksGood firstBroken fieldsOf fieldRules roundAntenna betweenRules stationOf valueOf stationCode isMail textGood dateGood serialGood serialOf headerOf headerFields headerRules headerValue headerCode filedHeaderCode stations recordAt withRecord referenceAt siteAt positionAt groundAt locatedOf codeAt samePlace standAlike clashing clashAt tooLong notRecords placesOf fieldAt fieldCount twinAt rowOf rowAt badAt trailerOf closed judgedSheet sheetOf headAt fitsForm touched mendedRow replacing.mendedSheet writes rowsWritten refusal codeWith ifDone firstRefusal replaceOutcome replacedSheet replacedRows lowestAt foundAt showOutcome shownField frequencyFits dayFits radiusFits groundFits heightFits positionFits tenthsFit typedRules typedCode spellDigits spellMagnitude spellDecimal spellSigned spellDate spellDay spellTenths unitLetter spellAmount spellUnit spellRadius spellGround spellHeight spellArc spellPosition stationPieces spellStation trimmedField paddedField lineOf before behind split lineFields isLine lines.recordOf lineOutcome stationInLine alike compared findingOf judgeOutcome
 worked = record {
   traps-hold =
       (refl, refl) & (refl, refl) & (refl, refl) & (refl, refl) & (refl, refl) & (refl, refl) & (refl, refl) & (refl, refl) &
@@ -62,12 +61,12 @@ worked = record {
   two-judged = refl;
   two-mended = refl;
   two-rows = refl;
-  two-turned = refl;
-  two-back = refl;
-  two-swapped = refl;
   two-right = refl;
   two-wrong = refl;
   two-old = refl;
+  site-judged = refl;
+  site-broken = refl;
+  site-rows = refl;
   header-alone = refl;
   wrong-count = refl;
   count-unasked = refl;

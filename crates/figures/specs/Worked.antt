@@ -3,6 +3,7 @@ use Prim.Native.Nat.{ℕ}
 use Prim.Native.String.{String}
 use mathlib.Core.Path.{_≡_}
 use mathlib.Core.List.{List, [], _∷_, _++_}
+use lib.ListN.{set}
 use Rattle.columns.specs.Texts.{bytes}
 use Rattle.station.specs.Spelling.{spellStation}
 use Rattle.station.specs.Codes.{valueOf, stationCode, typedCode}
@@ -13,9 +14,6 @@ use Rattle.header.specs.Codes.{headerCode, filedHeaderCode}
 use Rattle.files.specs.Calls.{showOutcome, shownField}
 use Rattle.sheet.specs.Sheets.{sheetOf}
 use Rattle.replacing.specs.Calls.{replacedSheet, replacedRows}
-use Rattle.forms.specs.OwnForm.{form}
-use Rattle.turning.specs.OldForm.{oldForm}
-use Rattle.turning.specs.Calls.{turnOutcome, turnedInto}
 use Rattle.verifying.specs.Verifying.{findingOf}
 use Rattle.verifying.specs.declared.verifying.Finding.the-variants as finding
 use Rattle.basics.specs.Outcomes.{refusal, codeWith}
@@ -33,19 +31,40 @@ two = recordFrom (samples.headerOf "     2") ++ (s ++ s)
 
 -- Its sheet: the second station is the first one's twin.
 abbrev pub twoSheet : List ℕ
-twoSheet = 0x00 ∷ 0x00 ∷ 0x00 ∷ 0x00 ∷ 0x00 ∷ 0x01 ∷ 0x00 ∷ 0x10 ∷ 0x03 ∷ 0x00 ∷ 0x00 ∷ 0x02 ∷ 0x00 ∷ 0x01 ∷ 0x32 ∷ 0x42 ∷ []
+twoSheet = 0x00 ∷ 0x00 ∷ 0x00 ∷ 0x00 ∷ 0x00 ∷ 0x00 ∷ 0x00 ∷ 0x01 ∷ 0x00 ∷ 0x00 ∷ 0x00 ∷ 0x14 ∷ 0x05 ∷ 0x00 ∷ 0x00 ∷ 0x02 ∷ 0x00 ∷ 0x01 ∷ 0x32 ∷ 0x43 ∷ []
 
--- The same sheet in the old form, as document 01 has it.
+-- The same sheet in the form that document 01 has.
 abbrev pub oldTwoSheet : List ℕ
 oldTwoSheet = 0x00 ∷ 0x00 ∷ 0x00 ∷ 0x01 ∷ 0x00 ∷ 0x0c ∷ 0x02 ∷ 0x00 ∷ 0x02 ∷ 0x01 ∷ 0x32 ∷ 0x41 ∷ []
 
 -- The sheet after number 1 got another reference.
 abbrev pub mendedSheet : List ℕ
-mendedSheet = 0x00 ∷ 0x00 ∷ 0x00 ∷ 0x00 ∷ 0x00 ∷ 0x00 ∷ 0x00 ∷ 0x10 ∷ 0x03 ∷ 0x00 ∷ 0x00 ∷ 0x00 ∷ 0x00 ∷ 0x00 ∷ 0x32 ∷ 0x42 ∷ []
+mendedSheet = 0x00 ∷ 0x00 ∷ 0x00 ∷ 0x00 ∷ 0x00 ∷ 0x00 ∷ 0x00 ∷ 0x00 ∷ 0x00 ∷ 0x00 ∷ 0x00 ∷ 0x14 ∷ 0x05 ∷ 0x00 ∷ 0x00 ∷ 0x00 ∷ 0x00 ∷ 0x00 ∷ 0x32 ∷ 0x43 ∷ []
 
 -- The sheet of a header alone.
 abbrev pub aloneSheet : List ℕ
-aloneSheet = 0x00 ∷ 0x0a ∷ 0x03 ∷ 0x00 ∷ 0x00 ∷ 0x00 ∷ 0x00 ∷ 0x00 ∷ 0x32 ∷ 0x42 ∷ []
+aloneSheet = 0x00 ∷ 0x0a ∷ 0x05 ∷ 0x00 ∷ 0x00 ∷ 0x00 ∷ 0x00 ∷ 0x00 ∷ 0x32 ∷ 0x43 ∷ []
+
+-- Three stations at the site of S: S, one a minute further east, and one where S is. The second clashes with the first, the third with the second.
+abbrev pub oneSite : List ℕ
+oneSite =
+    recordFrom (samples.headerOf "     3")
+    ++ (s ++ (recordFrom (set (set stationS 29 "AUT2311AB01A002") 10 "016E230548N1200") ++ sWith 30 "AUT2311AB01A003"))
+
+abbrev pub oneSiteSheet : List ℕ
+oneSiteSheet =
+    0x00 ∷ 0x00 ∷ 0x00 ∷ 0x00 ∷ 0x00 ∷
+    0x00 ∷ 0x00 ∷ 0x00 ∷ 0x00 ∷ 0x01 ∷
+    0x00 ∷ 0x00 ∷ 0x00 ∷ 0x00 ∷ 0x02 ∷
+    0x00 ∷ 0x19 ∷ 0x05 ∷ 0x00 ∷ 0x00 ∷ 0x02 ∷ 0x00 ∷ 0x02 ∷ 0x32 ∷ 0x43 ∷ []
+
+-- Its sheet after number 2 became a twin of S that breaks rule 3.
+abbrev pub brokenSiteSheet : List ℕ
+brokenSiteSheet =
+    0x00 ∷ 0x00 ∷ 0x00 ∷ 0x00 ∷ 0x00 ∷
+    0x03 ∷ 0x00 ∷ 0x01 ∷ 0x00 ∷ 0x00 ∷
+    0x00 ∷ 0x00 ∷ 0x00 ∷ 0x00 ∷ 0x00 ∷
+    0x00 ∷ 0x19 ∷ 0x05 ∷ 0x00 ∷ 0x00 ∷ 0x02 ∷ 0x00 ∷ 0x01 ∷ 0x32 ∷ 0x43 ∷ []
 
 -- Station S in the one spelling.
 abbrev pub spelledS : List String
@@ -127,14 +146,14 @@ pub record Worked : Type 0 where
   pub two-judged : sheetOf two ≡ twoSheet
   pub two-mended : replacedSheet two twoSheet 1 (sWith 30 "AUT2311AB01A002") ≡ mendedSheet
   pub two-rows : replacedRows two twoSheet 1 (sWith 30 "AUT2311AB01A002") ≡ 2
-  -- The old sheet turned is the new one, and the new one turned back the old.
-  pub two-turned : turnedInto oldForm form two oldTwoSheet twoSheet ≡ twoSheet
-  pub two-back : turnedInto form oldForm two twoSheet oldTwoSheet ≡ oldTwoSheet
-  pub two-swapped : refusal (turnOutcome oldForm form two twoSheet oldTwoSheet) ≡ 3
   -- The judged sheet is right. The mended one, beside the list as it was, is wrong at its second twin's low byte; and an old sheet is refused.
   pub two-right : findingOf two twoSheet ≡ finding.Right
-  pub two-wrong : findingOf two mendedSheet ≡ finding.WrongAt 5
+  pub two-wrong : findingOf two mendedSheet ≡ finding.WrongAt 7
   pub two-old : findingOf two oldTwoSheet ≡ finding.Refused
+  -- One site, one place. A station that breaks a rule clashes with none: the third's clash goes with the second's, and two rows are written.
+  pub site-judged : sheetOf oneSite ≡ oneSiteSheet
+  pub site-broken : replacedSheet oneSite oneSiteSheet 2 (sWith 3 "9") ≡ brokenSiteSheet
+  pub site-rows : replacedRows oneSite oneSiteSheet 2 (sWith 3 "9") ≡ 2
   -- A valid header alone, count 0.
   pub header-alone : sheetOf (recordFrom (samples.headerOf "     0")) ≡ aloneSheet
   -- A count that is not n is code 15, in a sheet alone.

@@ -8,13 +8,13 @@ use Rattle.forms.specs.Forms.{Form, trailerBytes, sheetBytes, numberIn, 
 
 -- The form of sheets: a row is its code and m numbers of b bytes each.
 abbrev pub rowNumbers : ℕ
-rowNumbers = 1
+rowNumbers = 2
 
 abbrev pub numberBytes : ℕ
 numberBytes = 2
 
 abbrev pub mark : List ℕ
-mark = bytes "2B"
+mark = bytes "2C"
 
 abbrev pub form : Form
 form = record { width = 1 + rowNumbers * numberBytes; bytes = numberBytes; mark = mark }
@@ -54,6 +54,9 @@ foundIn sheet n = foundAt form sheet n
 
 abbrev pub twinIn : List ℕ → ℕ → ℕ
 twinIn sheet k = numberIn form (rowIn sheet k) 0
+
+abbrev pub clashIn : List ℕ → ℕ → ℕ
+clashIn sheet k = numberIn form (rowIn sheet k) 1
 
 abbrev pub trailerFits : List ℕ → ℕ → Bool
 trailerFits sheet n = fitsForm form sheet n

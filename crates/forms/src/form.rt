@@ -1,12 +1,18 @@
-// The form of a sheet: how many bytes a number, a row and the trailer have, and where the trailer's parts stand in it.
+// The form of a sheet: how many bytes a number, a row and the trailer have, and where the parts of a row and of the trailer stand in it.
 
 pub const NUMBER_BYTES: usize = 2;
 
-pub const ROW_WIDTH: usize = 1 + NUMBER_BYTES;
+pub const ROW_NUMBERS: usize = 2;
 
-pub const WIDTH_BYTE: u8 = 3;
+pub const ROW_WIDTH: usize = 1 + ROW_NUMBERS * NUMBER_BYTES;
+
+pub const WIDTH_BYTE: u8 = 5;
 
 pub const TRAILER_LENGTH: usize = 6 + 2 * NUMBER_BYTES;
+
+pub const TWIN_PLACE: usize = 1;
+
+pub const CLASH_PLACE: usize = 1 + NUMBER_BYTES;
 
 pub const HEAD_PLACE: usize = 3;
 

@@ -1,9 +1,11 @@
-// What a sheet says, whatever its bytes: of each row its code, its twin and whether it is bad, and the numbers of the trailer.
+// What a sheet says, whatever its bytes: of each row its code, its twin, its clash and whether it is bad, and the numbers of the trailer.
+use crate::form::CLASH_PLACE;
 use crate::form::FOUND_PLACE;
 use crate::form::HEAD_PLACE;
 use crate::form::LOWEST_PLACE;
 use crate::form::ROW_WIDTH;
 use crate::form::TRAILER_LENGTH;
+use crate::form::TWIN_PLACE;
 use columns::texts::byte;
 ghost use mathlib.Core.Path.{_≡_};
 ghost use Prim.Native.Nat.{_+_, _*_};
@@ -12,7 +14,7 @@ ghost use lib.Dec.{eqb};
 ghost use Rattle.columns.specs.Texts.{every};
 ghost use Rattle.forms.specs.Forms.{valueFrom};
 ghost use Rattle.forms.specs.OwnForm.{numberBytes, rowWidth, rowIn};
-ghost use Rattle.forms.specs.Promises.{RowsCounted, RowCodeRead, RowTwinRead, RowBadRead, HeadRead, LowestRead, FoundRead};
+ghost use Rattle.forms.specs.Promises.{RowsCounted, RowCodeRead, RowTwinRead, RowClashRead, RowBadRead, HeadRead, LowestRead, FoundRead};
 
 // How many rows stand before the trailer.
 pub fn rows_in(sheet: &[u8]) -> usize
@@ -92,7 +94,14 @@ pub fn row_code(sheet: &[u8], i: usize) -> u8
 pub fn row_twin(sheet: &[u8], i: usize) -> u16
     ensures { λ r. ⌜ RowTwinRead (now (sheet .entry)) i r ⌝ }
 {
-    number(row(sheet, i), 1)
+    number(row(sheet, i), TWIN_PLACE)
+}
+
+// its clash,
+pub fn row_clash(sheet: &[u8], i: usize) -> u16
+    ensures { λ r. ⌜ RowClashRead (now (sheet .entry)) i r ⌝ }
+{
+    number(row(sheet, i), CLASH_PLACE)
 }
 
 // and whether it is bad.

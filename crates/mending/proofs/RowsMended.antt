@@ -8,7 +8,7 @@ use lib.ListN.{length, take, drop, length-drop}
 use lib.Seq.{length-take-le}
 use Rattle.files.specs.Files.{withRecord}
 use Rattle.forms.specs.Counting.{count, rows}
-use Rattle.stations.specs.Stations.{referenceAt}
+use Rattle.stations.specs.Stations.{siteAt}
 use Rattle.forms.proofs.CountLaws.{count-none}
 use Rattle.forms.specs.OwnForm.{rowWidth, headIn, withTrailer}
 use Rattle.sheet.specs.Sheets.{rowOf}
@@ -56,20 +56,20 @@ pub header-none : (n : ℕ) (file r : List ℕ) → rowsWritten n file 0 r ≡ 0
 unfolding rowsWritten writes
 header-none n file r = count-none (writes file 0 r) n (λ i. refl)
 
--- A station's replacement, from what the steps leave: the new file, the old reference, the rows that stand.
+-- A station's replacement, from what the steps leave: the new file, the old operator and site, the rows that stand.
 module _ (file sheet : List ℕ) (k : ℕ) (r : List ℕ) (n : ℕ) where
   -- what is said of a station is said of every number but 0
-  written-so : 1 ≤ k → rowsWritten n file k r ≡ count (touched (withRecord file k r) (referenceAt file k) k) n
+  written-so : 1 ≤ k → rowsWritten n file k r ≡ count (touched (withRecord file k r) (siteAt file k) k) n
   unfolding rowsWritten writes
-  written-so h = by-suc (λ (k : ℕ). rowsWritten n file k r ≡ count (touched (withRecord file k r) (referenceAt file k) k) n) (λ j. refl) k h
+  written-so h = by-suc (λ (k : ℕ). rowsWritten n file k r ≡ count (touched (withRecord file k r) (siteAt file k) k) n) (λ j. refl) k h
 
-  mended-station : 1 ≤ k → mendedSheet n file sheet k r ≡ withTrailer n (headIn sheet n) (rows (mendedRow (withRecord file k r) (referenceAt file k) k sheet) n)
+  mended-station : 1 ≤ k → mendedSheet n file sheet k r ≡ withTrailer n (headIn sheet n) (rows (mendedRow (withRecord file k r) (siteAt file k) k sheet) n)
   unfolding mendedSheet
   mended-station h =
-      by-suc (λ (k : ℕ). mendedSheet n file sheet k r ≡ withTrailer n (headIn sheet n) (rows (mendedRow (withRecord file k r) (referenceAt file k) k sheet) n))
+      by-suc (λ (k : ℕ). mendedSheet n file sheet k r ≡ withTrailer n (headIn sheet n) (rows (mendedRow (withRecord file k r) (siteAt file k) k sheet) n))
       (λ j. refl) k h
 
-  module _ (h : 1 ≤ k) {file′ old : List ℕ} (ef : file′ ≡ withRecord file k r) (eo : old ≡ referenceAt file k) where
+  module _ (h : 1 ≤ k) {file′ old : List ℕ} (ef : file′ ≡ withRecord file k r) (eo : old ≡ siteAt file k) where
     pub station-rows : count (touched file′ old k) n ≡ rowsWritten n file k r
     station-rows = rw (ef, eo) (sym (written-so h))
 

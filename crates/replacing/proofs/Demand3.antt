@@ -1,5 +1,5 @@
 -- Demand 3 over the calls themselves: after any run of replacements the sheet is the one judged afresh, and a replacement writes
--- only the new record, its own row, later rows that bear its old or new reference, and the trailer.
+-- only the new record, its own row, later rows that bear its old or new operator and site, and the trailer.
 use mathlib.Core.Path.{_≡_, refl, sym, ap, _∙_}
 use mathlib.Core.Bool.{Bool, true, false}
 use mathlib.Core.List.{List, [], _∷_, _++_}
@@ -13,7 +13,7 @@ use Rattle.files.specs.Files.{stations, recordAt, withRecord}
 use Rattle.basics.proofs.RefusalLaws.{done, if-done}
 use Rattle.files.proofs.ReplacedLaws.{replaced-record, other-record}
 use Rattle.forms.specs.Counting.{first, count, rows}
-use Rattle.stations.specs.Stations.{referenceAt}
+use Rattle.stations.specs.Stations.{siteAt}
 use Rattle.forms.specs.OwnForm.{form, rowWidth, rowIn, bad, headIn, lowestIn, foundIn}
 use Rattle.sheet.specs.Sheets.{rowOf, sheetOf}
 use Rattle.forms.specs.Forms.{rowAt, closed}
@@ -73,10 +73,10 @@ module _ (file sheet : List ℕ) (k : ℕ) (r : List ℕ) (accepted : done (repl
 
   -- what stands after it has the length of its rows
   abbrev mendedTo : ℕ → List ℕ
-  mendedTo = mendedRow (withRecord file (suc k) r) (referenceAt file (suc k)) (suc k) sheet
+  mendedTo = mendedRow (withRecord file (suc k) r) (siteAt file (suc k)) (suc k) sheet
 
   wide : RowsWide rowWidth mendedTo (stations file)
-  wide = mended-wide (withRecord file (suc k) r) (referenceAt file (suc k)) (suc k) sheet (stations file) room
+  wide = mended-wide (withRecord file (suc k) r) (siteAt file (suc k)) (suc k) sheet (stations file) room
 
   -- and is so closed
   ended : replacedSheet file sheet (suc k) r ≡ closed form (stations file) (headIn sheet (stations file)) (rows mendedTo (stations file))

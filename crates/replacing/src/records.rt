@@ -9,7 +9,7 @@ use mending::rows::mend_rows;
 use sheet::judging::judge_outcome;
 use sheet::trailers::fits_trailer;
 use sheet::trailers::put_trailer;
-use stations::reference;
+use stations::site;
 ghost use mathlib.Core.Path.{_≡_};
 ghost use Prim.Native.Nat.{_+_, _*_, _≤_};
 ghost use lib.ListN.{length};
@@ -56,8 +56,8 @@ fn replace_station(file: &mut [u8], sheet: &mut [u8], n: usize, k: usize, rec: &
     ensures { λ _. ⌜ now (file .exit) ≡ withRecord (now (file .entry)) k (now (rec .entry)) ⌝ }
     ensures { λ _. ⌜ now (sheet .exit) ≡ mendedSheet n (now (file .entry)) (now (sheet .entry)) k (now (rec .entry)) ⌝ }
 {
-    let mut old = [0u8; 15];
-    bytes::copy(reference(file, k), &mut old);
+    let mut old = [0u8; 6];
+    bytes::copy(site(file, k), &mut old);
     let head = head_code(sheet, n);
     put_record(file, k, rec);
     let written = mend_rows(file, sheet, n, k, &old);

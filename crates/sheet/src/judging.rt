@@ -3,6 +3,8 @@ use crate::rows::put_row;
 use crate::trailers::put_trailer;
 use basics::Outcome;
 use basics::outcomes::is_done;
+use clashes::CODES;
+use clashes::UNJUDGED;
 use files::lengths::MOST_STATIONS;
 use files::lengths::check_file;
 use files::lengths::record_in;
@@ -28,9 +30,10 @@ fn put_rows(file: &[u8], sheet: &mut [u8], n: usize)
     requires { ⌜ Sized (now file) (now sheet) n ⌝ }
     ensures { λ _. ⌜ now (sheet .exit) ≡ rows (rowOf (now (file .entry))) n ++ drop (rowWidth * n) (now (sheet .entry)) ⌝ }
 {
+    let mut codes = [UNJUDGED; CODES];
     let mut i = 0;
     while i < n {
-        put_row(sheet, file, i);
+        put_row(sheet, file, &mut codes, i);
         i += 1;
     }
 }

@@ -64,7 +64,7 @@ pub fn trailer_bytes(n: usize, head: u8, lowest: u16, found: u16) -> [u8; TRAILE
         (found / 256) as u8,
         (found % 256) as u8,
         b'2',
-        b'B',
+        b'C',
     ]
 }
 
@@ -107,5 +107,5 @@ pub fn fits_trailer(sheet: &[u8], n: usize) -> bool
     let end = ROW_WIDTH * n;
     let distance = end + TRAILER_LENGTH;
     let shape = [(distance / 256) as u8, (distance % 256) as u8, WIDTH_BYTE];
-    fits_shape(sheet, end, &shape, end + MARK_PLACE, b"2B")
+    fits_shape(sheet, end, &shape, end + MARK_PLACE, b"2C")
 }

@@ -8,14 +8,19 @@ use lib.Seq.{length-take-le}
 use Rattle.station.specs.Places.{fieldsOf}
 use Rattle.files.specs.Files.{recordAt}
 use Rattle.files.proofs.FileLaws.{record-wide}
-use Rattle.stations.specs.Stations.{referenceAt}
+use Rattle.stations.specs.Stations.{referenceAt, siteAt}
 
 module _ (file : List ℕ) (k : ℕ) (there : 219 * k + 219 ≤ length file) where
   -- Its last column, and each before it, can be read,
   pub column-there : {rec : List ℕ} → rec ≡ recordAt file k → (c : ℕ) → c ≤ 219 → c ≤ length rec
   column-there e c h = rw (e, record-wide file k there) h
 
-  -- and its 13X has fifteen bytes.
+  -- its 13X has fifteen bytes,
   pub reference-wide : length (referenceAt file k) ≡ 15
   unfolding referenceAt fieldsOf
   reference-wide = length-take-le 15 (drop 204 (recordAt file k)) (rw (length-drop, record-wide file k there) (omega arith))
+
+  -- and operator and site in it six.
+  pub site-wide : length (siteAt file k) ≡ 6
+  unfolding siteAt
+  site-wide = length-take-le 6 (drop 5 (referenceAt file k)) (rw (length-drop, reference-wide) (omega arith))

@@ -1,4 +1,6 @@
 // How far a sheet is right: rows are compared as they are judged, and no second sheet is kept.
+use clashes::CODES;
+use clashes::UNJUDGED;
 use files::lengths::record_in;
 use forms::form::ROW_WIDTH;
 use header_reading::judging::filed_header_code;
@@ -11,6 +13,7 @@ ghost use Rattle.basics.specs.Fields.{recordLength};
 ghost use Rattle.files.specs.Files.{mostStations};
 ghost use Rattle.forms.specs.Counting.{rows};
 ghost use Rattle.forms.specs.OwnForm.{rowWidth};
+ghost use Rattle.clashes.specs.Kept.{Kept};
 ghost use Rattle.sheet.specs.Sheets.{rowOf, judgedSheet};
 ghost use Rattle.sheet.specs.Promises.{Sized};
 ghost use Rattle.verifying.specs.Verifying.{alike};
@@ -34,11 +37,13 @@ fn alike_in_front(a: &[u8], b: &[u8]) -> usize
 }
 
 // How many bytes of row i + 1 are right.
-fn right_in_row(file: &[u8], sheet: &[u8], i: usize) -> usize
+fn right_in_row(file: &[u8], sheet: &[u8], codes: &mut [u8; CODES], i: usize) -> usize
     requires { ⌜ (i + 1 ≤ mostStations) × (rowWidth * i ≤ length (now sheet)) × (recordLength * (i + 1) + recordLength ≤ length (now file)) ⌝ }
+    requires { ⌜ Kept (now file) (now codes) ⌝ }
     ensures { λ r. ⌜ r ≡ alike (rowOf (now (file .entry)) (i + 1)) (drop (rowWidth * i) (now (sheet .entry))) ⌝ }
+    ensures { λ _. ⌜ Kept (now (file .entry)) (now (codes .exit)) ⌝ }
 {
-    let row = station_row(file, i + 1);
+    let row = station_row(file, codes, i + 1);
     let start = ROW_WIDTH * i;
     alike_in_front(&row, &sheet[start..])
 }
@@ -48,9 +53,10 @@ fn right_in_rows(file: &[u8], sheet: &[u8], n: usize) -> usize
     requires { ⌜ Sized (now file) (now sheet) n ⌝ }
     ensures { λ r. ⌜ r ≡ alike (rows (rowOf (now (file .entry))) n) (now (sheet .entry)) ⌝ }
 {
+    let mut codes = [UNJUDGED; CODES];
     let mut i = 0;
     while i < n {
-        let right = right_in_row(file, sheet, i);
+        let right = right_in_row(file, sheet, &mut codes, i);
         if right < ROW_WIDTH {
             return ROW_WIDTH * i + right;
         }

@@ -6,6 +6,8 @@ use Prim.Native.Nat.{_+_, _-_, _*_, _≤_}
 use lib.ListN.{length, drop}
 use Rattle.forms.specs.Counting.{rows}
 use Rattle.forms.specs.OwnForm.{rowWidth}
+use Rattle.clashes.specs.Kept.{Kept}
+use Rattle.clashes.proofs.KeptLaws.{none-kept}
 use Rattle.sheet.specs.Sheets.{rowOf}
 use Rattle.forms.proofs.RowLaws.{row-put}
 use Rattle.sheet.proofs.SheetLaws.{rows-wide}
@@ -15,13 +17,13 @@ use Rattle.sheet.proofs.judging.put_rows.Statement.{statement}
 use Rattle.sheet.proofs.judging.put_rows.Tie as tie
 
 abbrev Inv-loop : tie.InvT-loop
-Inv-loop file sheet₀ n i₀ sheet i = (i ≤ n) × (length sheet ≡ length sheet₀) × (sheet ≡ rows (rowOf file) i ++ drop (rowWidth * i) sheet₀)
+Inv-loop file sheet₀ n codes₀ i₀ sheet codes i = (i ≤ n) × (length sheet ≡ length sheet₀) × (sheet ≡ rows (rowOf file) i ++ drop (rowWidth * i) sheet₀) × Kept file codes
 
 abbrev μ-loop : tie.MeasureT-loop
-μ-loop file sheet₀ n i₀ sheet i = n - i
+μ-loop file sheet₀ n codes₀ i₀ sheet codes i = n - i
 
 loop-holds : tie.Need-loop-holds Inv-loop μ-loop
-loop-holds c = search needs
+loop-holds c = (search needs, search needs, search needs, none-kept (now (c .before .before .args .file)))
 
 put-row-requires : tie.Need-put-row-requires Inv-loop μ-loop
 put-row-requires c κs = search needs
@@ -34,10 +36,10 @@ loop-less c = search needs
 
 loop-again : tie.Need-loop-again Inv-loop μ-loop
 loop-again c =
-    let at-loop = c .before .before .before .before .before in
-    let a = c .before .before .before .before .before .before .before .before .args in
+    let at-loop = c .before .before .before .before .before .before in
+    let a = c .before .before .before .before .before .before .before .before .before .args in
     let file = now (a .file) in
-    (search needs, search needs, c .before .before .put-row .ensures ∙ row-put rowWidth (rowOf file) (now (a .sheet)) (at-loop .loop .i) (rows-wide file (at-loop .loop .i)) _ (at-loop .loop .inv .2))
+    (search needs, search needs, c .before .before .put-row .ensures .0 ∙ row-put rowWidth (rowOf file) (now (a .sheet)) (at-loop .loop .i) (rows-wide file (at-loop .loop .i)) _ (at-loop .loop .inv .2), c .before .before .put-row .ensures .1)
 
 same-length : tie.Need-same-length Inv-loop μ-loop
 same-length c = search needs

@@ -47,16 +47,16 @@ same-length c = search needs
 returns : tie.Need-returns
 unfolding rowOf
 returns c =
-    let a = c .before .before .before .before .before .before .before .before .args in
+    let a = c .before .before .before .before .before .before .before .before .before .args in
     let s = now (a .sheet) in
     let start = rowWidth * a .i in
     let held = c .before .before .before .before .before .station-row in
     let t = held .result in
-    let size : length t ≡ rowWidth = ap length (held .ensures) in
+    let size : length t ≡ rowWidth = ap length (held .ensures .0) in
     let e : start + rowWidth - start ≡ rowWidth = add-sub-cancel-left start rowWidth in
     let l : length (midOf start (start + rowWidth - start) s) ≡ length t = mid-len start (start + rowWidth) s (search needs) ∙ (omega arith) in
     let f : c .before .before .copy .last .1 .0 ≡ t = c .before .before .copy .ensures .1 ∙ copy-all t _ l in
-    rw (f, e, drop-drop rowWidth start s, held .ensures)
+    (rw (f, e, drop-drop rowWidth start s, held .ensures .0), held .ensures .1)
 
 pub put-row-spec : {M : Type 1} → statement M
 put-row-spec =

@@ -34,8 +34,9 @@ alike-in-front-requires c κs = search needs
 
 returns : tie.Need-returns
 returns c =
-    let a = c .before .before .before .before .before .before .args in
-    c .alike-in-front .ensures ∙ rw (c .before .before .before .station-row .ensures, from-on (now (a .sheet)) (rowWidth * a .i))
+    let a = c .before .before .before .before .before .before .before .args in
+    let row = c .before .before .before .station-row .ensures in
+    (c .alike-in-front .ensures ∙ rw (row .0, from-on (now (a .sheet)) (rowWidth * a .i)), row .1)
 
 pub right-in-row-spec : {M : Type 1} → statement M
 right-in-row-spec =

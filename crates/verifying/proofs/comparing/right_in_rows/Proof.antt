@@ -6,6 +6,8 @@ use Prim.Native.Nat.{ℕ, _+_, _-_, _*_, _≤_, _<_}
 use lib.ListN.{drop}
 use Rattle.forms.specs.Counting.{rows}
 use Rattle.forms.specs.OwnForm.{form, rowWidth}
+use Rattle.clashes.specs.Kept.{Kept}
+use Rattle.clashes.proofs.KeptLaws.{none-kept}
 use Rattle.sheet.specs.Sheets.{rowOf}
 use Rattle.sheet.proofs.SheetLaws.{rows-wide}
 use Rattle.verifying.specs.Verifying.{alike}
@@ -16,10 +18,10 @@ use Rattle.verifying.proofs.comparing.right_in_rows.Statement.{statemen
 use Rattle.verifying.proofs.comparing.right_in_rows.Tie as tie
 
 abbrev Inv-loop : tie.InvT-loop
-Inv-loop file sheet n i₀ i = (i ≤ n) × (alike (rows (rowOf file) i) sheet ≡ rowWidth * i)
+Inv-loop file sheet n codes₀ i₀ codes i = (i ≤ n) × (alike (rows (rowOf file) i) sheet ≡ rowWidth * i) × Kept file codes
 
 abbrev μ-loop : tie.MeasureT-loop
-μ-loop file sheet n i₀ i = n - i
+μ-loop file sheet n codes₀ i₀ codes i = n - i
 
 -- no row is right at first
 none-yet : (file sheet : List ℕ) → alike (rows (rowOf file) 0) sheet ≡ rowWidth * 0
@@ -27,7 +29,9 @@ unfolding alike
 none-yet file sheet = refl
 
 loop-holds : tie.Need-loop-holds Inv-loop μ-loop
-loop-holds c = (omega arith, none-yet (now (c .before .before .args .file)) (now (c .before .before .args .sheet)))
+loop-holds c =
+    let file = now (c .before .before .args .file) in
+    (omega arith, none-yet file (now (c .before .before .args .sheet)), none-kept file)
 
 right-in-row-requires : tie.Need-right-in-row-requires Inv-loop μ-loop
 right-in-row-requires c κs = search needs
@@ -40,12 +44,12 @@ add-result c = search needs
 
 returns : tie.Need-returns Inv-loop μ-loop
 returns c =
-    let l = c .before .before .before in
+    let l = c .before .before .before .before in
     let a = l .before .before .before .args in
     let file = now (a .file) in
     let sheet = now (a .sheet) in
     let i = l .loop .i in
-    let e : c .before .right-in-row .result ≡ alike (rowOf file (i + 1)) (drop (rowWidth * i) sheet) = c .before .right-in-row .ensures in
+    let e : c .before .right-in-row .result ≡ alike (rowOf file (i + 1)) (drop (rowWidth * i) sheet) = c .before .right-in-row .ensures .0 in
     let short : alike (rowOf file (i + 1)) (drop (rowWidth * i) sheet) < rowWidth = omega (arith, e, c .if1 .taken) in
     ap (λ (x : ℕ). rowWidth * i + x) e ∙ row-wrong form (rowOf file) (rows-wide file) sheet i (l .loop .inv .1) (a .n) (omega arith) short
 
@@ -57,14 +61,14 @@ loop-less c = search needs
 
 loop-again : tie.Need-loop-again Inv-loop μ-loop
 loop-again c =
-    let l = c .before .before .before in
+    let l = c .before .before .before .before in
     let a = l .before .before .before .args in
     let file = now (a .file) in
     let sheet = now (a .sheet) in
     let i = l .loop .i in
-    let e : c .before .right-in-row .result ≡ alike (rowOf file (i + 1)) (drop (rowWidth * i) sheet) = c .before .right-in-row .ensures in
+    let e : c .before .right-in-row .result ≡ alike (rowOf file (i + 1)) (drop (rowWidth * i) sheet) = c .before .right-in-row .ensures .0 in
     let whole : rowWidth ≤ alike (rowOf file (i + 1)) (drop (rowWidth * i) sheet) = omega (arith, e, c .if1 .left) in
-    (omega arith, row-right form (rowOf file) (rows-wide file) sheet i (l .loop .inv .1) whole)
+    (omega arith, row-right form (rowOf file) (rows-wide file) sheet i (l .loop .inv .1) whole, c .before .right-in-row .ensures .1)
 
 mul-result-2 : tie.Need-mul-result-2 Inv-loop μ-loop
 mul-result-2 c = search needs

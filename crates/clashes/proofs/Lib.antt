@@ -1,0 +1,3 @@
+pub mod SameLaws
+pub mod KeptLaws
+pub mod ClashLaws

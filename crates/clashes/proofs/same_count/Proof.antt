@@ -1,0 +1,10 @@
+-- `clashes::same_count` meets its contract: the bits are compared.
+use Rattle.clashes.proofs.SameLaws.{bits-same}
+use Rattle.clashes.proofs.same_count.Statement.{statement}
+use Rattle.clashes.proofs.same_count.Tie as tie
+
+returns : tie.Need-returns
+returns c = bits-same (c .args .a) (c .args .b) (c .fits .a) (c .fits .b)
+
+pub same-count-spec : {M : Type 1} → statement M
+same-count-spec = tie.close (tie.spec returns)

@@ -1,0 +1,107 @@
+-- `clashes::spelled_alike` meets its contract: place and height are parts of the two records.
+use denote.Ref.{now}
+use mathlib.Core.Path.{_≡_, sym, _∙_}
+use mathlib.Core.Bool.{true, false≢true}
+use native.Mathlib.Omega.{arith}
+use lib.ListN.{take, drop}
+use Rattle.columns.specs.Texts.{same}
+use Rattle.columns.proofs.SameLaws.{same-true}
+use Rattle.files.specs.Files.{recordAt}
+use Rattle.stations.proofs.StationLaws.{column-there}
+use Rattle.clashes.proofs.SameLaws.{spelled-so}
+use borrow.Author.Needs.{needs}
+use Rattle.clashes.proofs.spelled_alike.Statement.{statement}
+use Rattle.clashes.proofs.spelled_alike.Tie as tie
+
+record-in-requires : tie.Need-record-in-requires
+record-in-requires c κs = search needs
+
+record-in-requires-2 : tie.Need-record-in-requires-2
+record-in-requires-2 c κs = search needs
+
+sub-equal : tie.Need-sub-equal
+sub-equal c = search needs
+
+part-equal-start : tie.Need-part-equal-start
+part-equal-start c = search needs
+
+part-equal-end : tie.Need-part-equal-end
+part-equal-end c =
+    let start = c .before .before .before in
+    column-there (now (start .args .file)) (start .args .i) (start .pre .0) (c .before .record-in .ensures .0) 66 (omega arith)
+
+sub-equal-2 : tie.Need-sub-equal-2
+sub-equal-2 c = search needs
+
+part-equal-start-2 : tie.Need-part-equal-start-2
+part-equal-start-2 c = search needs
+
+part-equal-end-2 : tie.Need-part-equal-end-2
+part-equal-end-2 c =
+    let start = c .before .before .before .before in
+    column-there (now (start .args .file)) (start .args .k) (start .pre .1) (c .before .record-in2 .ensures .0) 66 (omega arith)
+
+equal-requires : tie.Need-equal-requires
+equal-requires c κs = search needs
+
+sub-equal-3 : tie.Need-sub-equal-3
+sub-equal-3 c = search needs
+
+part-equal-start-3 : tie.Need-part-equal-start-3
+part-equal-start-3 c = search needs
+
+part-equal-end-3 : tie.Need-part-equal-end-3
+part-equal-end-3 c =
+    let start = c .before .before .before .before .before .before .before in
+    column-there (now (start .args .file)) (start .args .i) (start .pre .0) (c .before .before .before .before .before .record-in .ensures .0) 111 (omega arith)
+
+sub-equal-4 : tie.Need-sub-equal-4
+sub-equal-4 c = search needs
+
+part-equal-start-4 : tie.Need-part-equal-start-4
+part-equal-start-4 c = search needs
+
+part-equal-end-4 : tie.Need-part-equal-end-4
+part-equal-end-4 c =
+    let start = c .before .before .before .before .before .before .before .before in
+    column-there (now (start .args .file)) (start .args .k) (start .pre .1) (c .before .before .before .before .before .record-in2 .ensures .0) 111 (omega arith)
+
+equal-requires-2 : tie.Need-equal-requires-2
+equal-requires-2 c κs = search needs
+
+returns : tie.Need-returns
+returns c t =
+    let a = c .before .before .before .before .before .before .before .before .before .before .args in
+    let theirs = recordAt (now (a .file)) (a .i) in
+    let mine = recordAt (now (a .file)) (a .k) in
+    let their-bytes = c .before .before .before .before .before .before .before .before .record-in .ensures .0 in
+    let my-bytes = c .before .before .before .before .before .before .before .record-in2 .ensures .0 in
+    let places : same (take 15 (drop 51 theirs)) (take 15 (drop 51 mine)) ≡ true = rw (their-bytes, my-bytes) at (sym (c .before .before .before .before .equal .ensures) ∙ c .before .before .before .if1 .taken) in
+    let heights : same (take 4 (drop 107 theirs)) (take 4 (drop 107 mine)) ≡ true = rw (their-bytes, my-bytes) at (sym (c .equal2 .ensures) ∙ t) in
+    spelled-so (now (a .file)) (a .i) (a .k) (same-true _ _ places) (same-true _ _ heights)
+
+returns-2 : tie.Need-returns-2
+returns-2 c t = absurd (false≢true t)
+
+pub spelled-alike-spec : {M : Type 1} → statement M
+spelled-alike-spec =
+    tie.close
+    (tie.spec
+    record-in-requires
+    record-in-requires-2
+    sub-equal
+    part-equal-start
+    part-equal-end
+    sub-equal-2
+    part-equal-start-2
+    part-equal-end-2
+    equal-requires
+    sub-equal-3
+    part-equal-start-3
+    part-equal-end-3
+    sub-equal-4
+    part-equal-start-4
+    part-equal-end-4
+    equal-requires-2
+    returns
+    returns-2)

@@ -1,0 +1,42 @@
+-- Document 02, wish 8, "One site, one place": the site part of 13X is tied to one pair of coordinates and one antenna height.
+use Prim.Native.Nat.{ℕ, _-_}
+use mathlib.Core.Bool.{Bool, true, false, not, _&&_}
+use mathlib.Core.List.{List}
+use lib.Dec.{eqb}
+use lib.IntN.{ℤ, pos, negsuc}
+use Rattle.columns.specs.Texts.{same}
+use Rattle.positions.specs.declared.Position.{Position}
+use Rattle.positions.specs.declared.Located.{Located}
+use Rattle.positions.specs.declared.Located.the-variants as located
+use Rattle.stations.specs.Stations.{codeAt, siteAt, positionAt, groundAt}
+use Rattle.forms.specs.Counting.{first}
+
+-- Two signed counts are equal.
+abbrev pub sameCount : ℤ → ℤ → Bool
+sameCount (pos a) (pos b) = eqb a b
+sameCount (pos a) (negsuc b) = false
+sameCount (negsuc a) (pos b) = false
+sameCount (negsuc a) (negsuc b) = eqb a b
+
+-- Two positions agree in both counts of seconds.
+abbrev pub samePosition : Position → Position → Bool
+samePosition p q = sameCount (p .east) (q .east) && sameCount (p .north) (q .north)
+
+-- Two stations say one place: the same position, or neither says any.
+unfoldable pub samePlace : Located → Located → Bool
+samePlace located.Bad located.Bad = true
+samePlace located.Bad (located.Filled q) = false
+samePlace (located.Filled p) located.Bad = false
+samePlace (located.Filled p) (located.Filled q) = samePosition p q
+
+-- Stations i and k stand at one place, 4C, and one height above ground, 9Y.
+unfoldable pub standAlike : List ℕ → ℕ → ℕ → Bool
+standAlike file i k = samePlace (positionAt file i) (positionAt file k) && sameCount (groundAt file i .0) (groundAt file k .0)
+
+-- Station i clashes with station k: their operator and site agree while place or height differs, and neither breaks a rule.
+unfoldable pub clashing : List ℕ → ℕ → ℕ → Bool
+clashing file k i = same (siteAt file i) (siteAt file k) && (not (standAlike file i k) && (eqb (codeAt file i) 0 && eqb (codeAt file k) 0))
+
+-- Station k's clash: the lowest station before it that clashes with it, else 0.
+unfoldable pub clashAt : List ℕ → ℕ → ℕ
+clashAt file k = first (clashing file k) (k - 1)

@@ -1,4 +1,0 @@
-pub mod OldForm
-pub mod Turning
-pub mod Calls
-pub mod Promises
