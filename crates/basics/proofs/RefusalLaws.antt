@@ -28,10 +28,10 @@ done-is outcome.NoSuchField e = absurd (false≢true e)
 done-is outcome.NotALine e = absurd (false≢true e)
 done-is outcome.FieldTooLong e = absurd (false≢true e)
 done-is outcome.BufferTooShort e = absurd (false≢true e)
-done-is outcome.OldFormTooMany e = absurd (false≢true e)
 done-is outcome.NotTwelveDigits e = absurd (false≢true e)
 done-is outcome.LastDigitWrong e = absurd (false≢true e)
 done-is outcome.NotMobileDefaults e = absurd (false≢true e)
+done-is outcome.TooFewRows e = absurd (false≢true e)
 done-is (outcome.RuleBroken c) e = absurd (false≢true e)
 
 -- Where a caller asked whether an outcome is done and went on, it was;

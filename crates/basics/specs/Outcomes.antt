@@ -8,7 +8,7 @@ use Rattle.basics.specs.Fields.{recordLength}
 use Rattle.basics.specs.declared.Outcome.{Outcome}
 use Rattle.basics.specs.declared.Outcome.the-variants as outcome
 
--- The refusal's number; 0 where the call is done.
+-- The refusal's number; 0 where the call is done. No outcome has 13, which was that of turning.
 unfoldable pub refusal : Outcome → ℕ
 refusal outcome.Done = 0
 refusal outcome.FileTooLong = 1
@@ -22,10 +22,10 @@ refusal outcome.NoSuchField = 8
 refusal outcome.NotALine = 10
 refusal outcome.FieldTooLong = 11
 refusal outcome.BufferTooShort = 12
-refusal outcome.OldFormTooMany = 13
 refusal outcome.NotTwelveDigits = 14
 refusal outcome.LastDigitWrong = 15
 refusal outcome.NotMobileDefaults = 16
+refusal outcome.TooFewRows = 17
 refusal (outcome.RuleBroken c) = 9
 
 -- The code that comes with it; with any but 9 it is 0.
@@ -42,10 +42,10 @@ codeWith outcome.NoSuchField = 0
 codeWith outcome.NotALine = 0
 codeWith outcome.FieldTooLong = 0
 codeWith outcome.BufferTooShort = 0
-codeWith outcome.OldFormTooMany = 0
 codeWith outcome.NotTwelveDigits = 0
 codeWith outcome.LastDigitWrong = 0
 codeWith outcome.NotMobileDefaults = 0
+codeWith outcome.TooFewRows = 0
 codeWith (outcome.RuleBroken c) = c
 
 -- One value where the call is done, another where it is refused.

@@ -24,9 +24,9 @@ pub enum Outcome {
     NotALine,
     FieldTooLong,
     BufferTooShort,
-    OldFormTooMany,
     NotTwelveDigits,
     LastDigitWrong,
     NotMobileDefaults,
+    TooFewRows,
     RuleBroken(u8),
 }

@@ -31,10 +31,10 @@ pub fn refusal_number(outcome: Outcome) -> u8
         Outcome::NotALine => 10,
         Outcome::FieldTooLong => 11,
         Outcome::BufferTooShort => 12,
-        Outcome::OldFormTooMany => 13,
         Outcome::NotTwelveDigits => 14,
         Outcome::LastDigitWrong => 15,
         Outcome::NotMobileDefaults => 16,
+        Outcome::TooFewRows => 17,
         Outcome::RuleBroken(_) => 9,
     }
 }

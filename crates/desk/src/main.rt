@@ -19,10 +19,10 @@ fn file_space() -> [u8; ROOM]
 }
 
 // Room for the longest report.
-fn report_space() -> [u8; 9216]
-    ensures { λ r. ⌜ 9216 ≡ length r ⌝ }
+fn report_space() -> [u8; 12288]
+    ensures { λ r. ⌜ 12288 ≡ length r ⌝ }
 {
-    [0; 9216]
+    [0; 12288]
 }
 
 // Reads at most that much of the file, and writes all of its report, or says what it could not do.

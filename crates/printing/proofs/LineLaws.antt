@@ -1,4 +1,4 @@
--- Numbers in plain decimal, and the line of a row by the row's code and twin.
+-- Numbers in plain decimal, and the line of a row by the row's code, twin and clash.
 use mathlib.Core.Path.{_≡_, _∙_}
 use mathlib.Core.Bool.{true, false}
 use mathlib.Core.List.{List, [], _++_}
@@ -9,7 +9,7 @@ use lib.ListN.{length}
 use Rattle.numerals.proofs.RoundTrip.{spelled-length}
 use Rattle.forms.specs.Counting.{rows}
 use Rattle.forms.specs.Forms.{codeIn}
-use Rattle.forms.specs.OwnForm.{rowIn, twinIn, bad}
+use Rattle.forms.specs.OwnForm.{rowIn, twinIn, clashIn, bad}
 use Rattle.printing.specs.Lines.{places, decimal, stationLine}
 use Rattle.printing.specs.Reports.{rowLine}
 
@@ -24,10 +24,11 @@ module _ (sheet : List ℕ) (i : ℕ) where
   unfolding rowLine
   good-row e = rw e
 
-  -- and a bad one the line of its code and its twin.
-  pub bad-row : {c t : ℕ} → bad sheet (i + 1) ≡ true → c ≡ codeIn (rowIn sheet (i + 1)) → t ≡ twinIn sheet (i + 1) → rowLine sheet (i + 1) ≡ stationLine (i + 1) c t
+  -- and a bad one the line of its code, its twin and its clash.
+  pub bad-row : {c t h : ℕ} → bad sheet (i + 1) ≡ true → c ≡ codeIn (rowIn sheet (i + 1)) → t ≡ twinIn sheet (i + 1) → h ≡ clashIn sheet (i + 1)
+      → rowLine sheet (i + 1) ≡ stationLine (i + 1) c t h
   unfolding rowLine
-  bad-row e ec et = rw (e, ec, et)
+  bad-row e ec et eh = rw (e, ec, et, eh)
 
 -- One row more.
 pub rows-more : (row : ℕ → List ℕ) (i : ℕ) → rows row (i + 1) ≡ rows row i ++ row (i + 1)

@@ -13,19 +13,19 @@ use Rattle.printing.specs.Reports.{rowLine, sheetLines, sheetReport}
 abbrev line : String → List ℕ
 line text = bytes text ++ lineFeed
 
--- A valid header with count 2 and station S twice: the sheet 00 00 00 00 00 01 00 10 03 00 00 02 00 01 32 42.
-pub two-stations : sheetReport (0 ∷ 0 ∷ 0 ∷ 0 ∷ 0 ∷ 1 ∷ 0 ∷ 16 ∷ 3 ∷ 0 ∷ 0 ∷ 2 ∷ 0 ∷ 1 ∷ 50 ∷ 66 ∷ []) 2
-    ≡ line "header 0" ++ (line "station 2 code 0 twin 1" ++ line "stations 2 bad 1")
+-- A valid header with count 2 and station S twice: the sheet 00 00 00 00 00 00 00 01 00 00 00 14 05 00 00 02 00 01 32 43.
+pub two-stations : sheetReport (0 ∷ 0 ∷ 0 ∷ 0 ∷ 0 ∷ 0 ∷ 0 ∷ 1 ∷ 0 ∷ 0 ∷ 0 ∷ 20 ∷ 5 ∷ 0 ∷ 0 ∷ 2 ∷ 0 ∷ 1 ∷ 50 ∷ 67 ∷ []) 2
+    ≡ line "header 0" ++ (line "station 2 code 0 twin 1 clash 0" ++ line "stations 2 bad 1")
 unfolding sheetReport sheetLines headerLine rowLine stationLine totalLine headAt badAt rowAt every decimal places spellDigits
 two-stations = refl
 
--- A valid header alone, count 0: the sheet 00 0A 03 00 00 00 00 00 32 42.
-pub header-alone : sheetReport (0 ∷ 10 ∷ 3 ∷ 0 ∷ 0 ∷ 0 ∷ 0 ∷ 0 ∷ 50 ∷ 66 ∷ []) 0 ≡ line "header 0" ++ line "stations 0 bad 0"
+-- A valid header alone, count 0: the sheet 00 0A 05 00 00 00 00 00 32 43.
+pub header-alone : sheetReport (0 ∷ 10 ∷ 5 ∷ 0 ∷ 0 ∷ 0 ∷ 0 ∷ 0 ∷ 50 ∷ 67 ∷ []) 0 ≡ line "header 0" ++ line "stations 0 bad 0"
 unfolding sheetReport sheetLines headerLine totalLine headAt decimal places spellDigits
 header-alone = refl
 
 -- Numbers of three, two and one digit.
-pub three-widths : stationLine 298 39 257 ≡ line "station 298 code 39 twin 257"
+pub three-widths : stationLine 298 39 257 60 ≡ line "station 298 code 39 twin 257 clash 60"
 unfolding stationLine decimal places spellDigits
 three-widths = refl
 

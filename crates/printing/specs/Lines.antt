@@ -31,9 +31,9 @@ refusedLine r = labelled "refused " r ++ lineFeed
 unfoldable pub headerLine : ℕ → List ℕ
 headerLine c = labelled "header " c ++ lineFeed
 
--- `station K code C twin T`
-unfoldable pub stationLine : ℕ → ℕ → ℕ → List ℕ
-stationLine k c t = labelled "station " k ++ (labelled " code " c ++ (labelled " twin " t ++ lineFeed))
+-- `station K code C twin T clash H`
+unfoldable pub stationLine : ℕ → ℕ → ℕ → ℕ → List ℕ
+stationLine k c t h = labelled "station " k ++ (labelled " code " c ++ (labelled " twin " t ++ (labelled " clash " h ++ lineFeed)))
 
 -- `stations N bad B`
 unfoldable pub totalLine : ℕ → ℕ → List ℕ

@@ -8,13 +8,13 @@ use Rattle.files.specs.Files.{stations}
 use Rattle.files.specs.Calls.{fileTests}
 use Rattle.forms.specs.Counting.{count, rows}
 use Rattle.forms.specs.Forms.{codeIn}
-use Rattle.forms.specs.OwnForm.{rowIn, twinIn, bad, headIn}
+use Rattle.forms.specs.OwnForm.{rowIn, twinIn, clashIn, bad, headIn}
 use Rattle.sheet.specs.Sheets.{sheetOf}
 use Rattle.printing.specs.Lines.{refusedLine, headerLine, stationLine, totalLine}
 
--- The line of row k: its code and its twin where it is bad, else none.
+-- The line of row k: its code, its twin and its clash where it is bad, else none.
 unfoldable pub rowLine : List ℕ → ℕ → List ℕ
-rowLine sheet k = cond (bad sheet k) (stationLine k (codeIn (rowIn sheet k)) (twinIn sheet k)) []
+rowLine sheet k = cond (bad sheet k) (stationLine k (codeIn (rowIn sheet k)) (twinIn sheet k) (clashIn sheet k)) []
 
 -- The lines of a sheet of n rows of which so many are bad: the header's code, the bad rows ascending, and both numbers.
 unfoldable pub sheetLines : List ℕ → ℕ → ℕ → List ℕ

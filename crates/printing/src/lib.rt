@@ -1,6 +1,6 @@
 // What the programs print: the report of a file, and its list.
 
-mod lines;
+pub mod lines;
 pub mod listing;
-mod pieces;
+pub mod pieces;
 pub mod reports;

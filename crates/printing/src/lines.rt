@@ -7,7 +7,7 @@ ghost use Rattle.printing.specs.Lines.{refusedLine, headerLine, stationL
 ghost use Rattle.printing.specs.Promises.{Appended};
 
 // Puts in `refused R`, and answers where it ends.
-pub(crate) fn put_refused(out: &mut [u8], start: usize, number: u8) -> usize
+pub fn put_refused(out: &mut [u8], start: usize, number: u8) -> usize
     requires { ⌜ start + 12 ≤ length (now out) ⌝ }
     ensures { λ r. ⌜ Appended (now (out .entry)) start (refusedLine number) (now (out .exit)) r ⌝ }
 {
@@ -16,7 +16,7 @@ pub(crate) fn put_refused(out: &mut [u8], start: usize, number: u8) -> usize
 }
 
 // Puts in `header C`, and answers where it ends.
-pub(crate) fn put_header(out: &mut [u8], start: usize, code: u8) -> usize
+pub fn put_header(out: &mut [u8], start: usize, code: u8) -> usize
     requires { ⌜ start + 11 ≤ length (now out) ⌝ }
     ensures { λ r. ⌜ Appended (now (out .entry)) start (headerLine code) (now (out .exit)) r ⌝ }
     ensures { λ r. ⌜ r ≤ start + 11 ⌝ }
@@ -25,20 +25,28 @@ pub(crate) fn put_header(out: &mut [u8], start: usize, code: u8) -> usize
     put_text(out, end, b"\n")
 }
 
-// Puts in `station K code C twin T`, and answers where it ends.
-pub(crate) fn put_station(out: &mut [u8], start: usize, k: u16, code: u8, twin: u16) -> usize
-    requires { ⌜ start + 30 ≤ length (now out) ⌝ }
-    ensures { λ r. ⌜ Appended (now (out .entry)) start (stationLine k code twin) (now (out .exit)) r ⌝ }
-    ensures { λ r. ⌜ r ≤ start + 30 ⌝ }
+// Puts in `station K code C twin T clash H`, and answers where it ends.
+pub(crate) fn put_station(
+    out: &mut [u8],
+    start: usize,
+    k: u16,
+    code: u8,
+    twin: u16,
+    clash: u16,
+) -> usize
+    requires { ⌜ start + 40 ≤ length (now out) ⌝ }
+    ensures { λ r. ⌜ Appended (now (out .entry)) start (stationLine k code twin clash) (now (out .exit)) r ⌝ }
+    ensures { λ r. ⌜ r ≤ start + 40 ⌝ }
 {
     let number_end = put_labelled(out, start, b"station ", k);
     let code_end = put_labelled(out, number_end, b" code ", code as u16);
     let twin_end = put_labelled(out, code_end, b" twin ", twin);
-    put_text(out, twin_end, b"\n")
+    let clash_end = put_labelled(out, twin_end, b" clash ", clash);
+    put_text(out, clash_end, b"\n")
 }
 
 // Puts in `stations N bad B`, and answers where it ends.
-pub(crate) fn put_total(out: &mut [u8], start: usize, n: u16, found: u16) -> usize
+pub fn put_total(out: &mut [u8], start: usize, n: u16, found: u16) -> usize
     requires { ⌜ start + 21 ≤ length (now out) ⌝ }
     ensures { λ r. ⌜ Appended (now (out .entry)) start (totalLine n found) (now (out .exit)) r ⌝ }
 {
@@ -48,7 +56,7 @@ pub(crate) fn put_total(out: &mut [u8], start: usize, n: u16, found: u16) -> usi
 }
 
 // Puts in `station K code C`, and answers where it ends.
-pub(crate) fn put_broken(out: &mut [u8], start: usize, k: u16, code: u8) -> usize
+pub fn put_broken(out: &mut [u8], start: usize, k: u16, code: u8) -> usize
     requires { ⌜ start + 21 ≤ length (now out) ⌝ }
     ensures { λ r. ⌜ Appended (now (out .entry)) start (brokenLine k code) (now (out .exit)) r ⌝ }
     ensures { λ r. ⌜ r ≤ start + 21 ⌝ }

@@ -9,7 +9,7 @@ ghost use Rattle.printing.specs.Lines.{places as Lines·places};
 ghost use Rattle.printing.specs.Promises.{Appended};
 
 // Puts in a text, and answers where it ends.
-pub(crate) fn put_text(out: &mut [u8], start: usize, text: &[u8]) -> usize
+pub fn put_text(out: &mut [u8], start: usize, text: &[u8]) -> usize
     requires { ⌜ start + length (now text) ≤ length (now out) ⌝ }
     ensures { λ r. ⌜ Appended (now (out .entry)) start (now (text .entry)) (now (out .exit)) r ⌝ }
 {
@@ -44,7 +44,7 @@ fn put_number(out: &mut [u8], start: usize, v: u16) -> usize
 }
 
 // Puts in a number and the words before it, and answers where it ends.
-pub(crate) fn put_labelled(out: &mut [u8], start: usize, label: &[u8], v: u16) -> usize
+pub fn put_labelled(out: &mut [u8], start: usize, label: &[u8], v: u16) -> usize
     requires { ⌜ start + (length (now label) + 3) ≤ length (now out) ⌝ }
     ensures { λ r. ⌜ Appended (now (out .entry)) start (now (label .entry) ++ decimal v) (now (out .exit)) r ⌝ }
     ensures { λ r. ⌜ r ≤ start + (length (now (label .entry)) + 3) ⌝ }

@@ -12,6 +12,7 @@ use forms::form::TRAILER_LENGTH;
 use forms::readers::found;
 use forms::readers::head_code;
 use forms::readers::is_bad;
+use forms::readers::row_clash;
 use forms::readers::row_code;
 use forms::readers::row_twin;
 use sheet::judging::LONGEST_SHEET;
@@ -31,26 +32,27 @@ ghost use Rattle.printing.specs.Promises.{Appended, ReportWritten};
 
 // Puts in the line of row i + 1 where it is bad, and answers where it ends.
 fn put_row(out: &mut [u8], start: usize, sheet: &[u8], i: usize) -> usize
-    requires { ⌜ start + 30 ≤ length (now out) ⌝ }
+    requires { ⌜ start + 40 ≤ length (now out) ⌝ }
     requires { ⌜ (i + 1 ≤ mostStations) × (rowWidth * i + rowWidth ≤ length (now sheet)) ⌝ }
     ensures { λ r. ⌜ Appended (now (out .entry)) start (rowLine (now (sheet .entry)) (i + 1)) (now (out .exit)) r ⌝ }
-    ensures { λ r. ⌜ r ≤ start + 30 ⌝ }
+    ensures { λ r. ⌜ r ≤ start + 40 ⌝ }
 {
     if !is_bad(sheet, i) {
         return start;
     }
     let code = row_code(sheet, i);
     let twin = row_twin(sheet, i);
+    let clash = row_clash(sheet, i);
     let k = i + 1;
-    put_station(out, start, k as u16, code, twin)
+    put_station(out, start, k as u16, code, twin, clash)
 }
 
 // Puts in the lines of all bad rows of n, and answers where they end.
 fn put_rows(out: &mut [u8], start: usize, sheet: &[u8], n: usize) -> usize
-    requires { ⌜ start + 30 * n ≤ length (now out) ⌝ }
+    requires { ⌜ start + 40 * n ≤ length (now out) ⌝ }
     requires { ⌜ (n ≤ mostStations) × (rowWidth * n ≤ length (now sheet)) ⌝ }
     ensures { λ r. ⌜ Appended (now (out .entry)) start (rows (rowLine (now (sheet .entry))) n) (now (out .exit)) r ⌝ }
-    ensures { λ r. ⌜ r ≤ start + 30 * n ⌝ }
+    ensures { λ r. ⌜ r ≤ start + 40 * n ⌝ }
 {
     let mut end = start;
     let mut i = 0;
@@ -63,7 +65,7 @@ fn put_rows(out: &mut [u8], start: usize, sheet: &[u8], n: usize) -> usize
 
 // Puts in the lines of a sheet of n rows, and answers where they end.
 fn put_sheet(out: &mut [u8], sheet: &[u8], n: usize) -> usize
-    requires { ⌜ (n ≤ mostStations) × (length (now sheet) ≡ sheetLength n) × (9216 ≤ length (now out)) ⌝ }
+    requires { ⌜ (n ≤ mostStations) × (length (now sheet) ≡ sheetLength n) × (12288 ≤ length (now out)) ⌝ }
     ensures { λ r. ⌜ Appended (now (out .entry)) 0 (sheetLines (now (sheet .entry)) n (foundIn (now (sheet .entry)) n)) (now (out .exit)) r ⌝ }
 {
     let header_end = put_header(out, 0, head_code(sheet, n));
@@ -73,7 +75,7 @@ fn put_sheet(out: &mut [u8], sheet: &[u8], n: usize) -> usize
 
 // Judges a file of n stations into a sheet, puts in the sheet's lines, and answers where they end.
 fn put_judged(out: &mut [u8], file: &[u8], sheet: &mut [u8], n: usize) -> usize
-    requires { ⌜ (n ≡ stations (now file)) × (length (now sheet) ≡ sheetLength n) × (9216 ≤ length (now out)) ⌝ }
+    requires { ⌜ (n ≡ stations (now file)) × (length (now sheet) ≡ sheetLength n) × (12288 ≤ length (now out)) ⌝ }
     requires { ⌜ eqb (refusal (lengthOutcome (now file))) 0 ≡ true ⌝ }
     ensures { λ r. ⌜ Appended (now (out .entry)) 0 (sheetReport (sheetOf (now (file .entry))) n) (now (out .exit)) r ⌝ }
 {
@@ -90,7 +92,7 @@ fn sheet_space() -> [u8; LONGEST_SHEET]
 
 // Puts in the lines of a file whose length is right, and answers where they end.
 fn put_file(out: &mut [u8], file: &[u8]) -> usize
-    requires { ⌜ 9216 ≤ length (now out) ⌝ }
+    requires { ⌜ 12288 ≤ length (now out) ⌝ }
     requires { ⌜ eqb (refusal (lengthOutcome (now file))) 0 ≡ true ⌝ }
     ensures { λ r. ⌜ Appended (now (out .entry)) 0 (sheetReport (sheetOf (now (file .entry))) (stations (now (file .entry)))) (now (out .exit)) r ⌝ }
 {
@@ -101,7 +103,7 @@ fn put_file(out: &mut [u8], file: &[u8]) -> usize
 }
 
 // Writes the report of a file into the lent bytes, and answers its length; the bytes behind it are kept.
-pub fn write_report(file: &[u8], out: &mut [u8; 9216]) -> usize
+pub fn write_report(file: &[u8], out: &mut [u8; 12288]) -> usize
     ensures { λ r. ⌜ ReportWritten (now (file .entry)) (now (out .entry)) r (now (out .exit)) ⌝ }
 {
     let outcome = check_file(file);

@@ -31,10 +31,10 @@ no-code outcome.NoSuchField k = refl
 no-code outcome.NotALine k = refl
 no-code outcome.FieldTooLong k = refl
 no-code outcome.BufferTooShort k = refl
-no-code outcome.OldFormTooMany k = refl
 no-code outcome.NotTwelveDigits k = refl
 no-code outcome.LastDigitWrong k = refl
 no-code outcome.NotMobileDefaults k = refl
+no-code outcome.TooFewRows k = refl
 no-code (outcome.RuleBroken c) k = absurd (miss earlier 16 tt k)
 
 enum-known-outcome : tie.Need-enum-known-outcome

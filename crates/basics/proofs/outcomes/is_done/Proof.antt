@@ -33,10 +33,10 @@ refused outcome.NoSuchField k = refl
 refused outcome.NotALine k = refl
 refused outcome.FieldTooLong k = refl
 refused outcome.BufferTooShort k = refl
-refused outcome.OldFormTooMany k = refl
 refused outcome.NotTwelveDigits k = refl
 refused outcome.LastDigitWrong k = refl
 refused outcome.NotMobileDefaults k = refl
+refused outcome.TooFewRows k = refl
 refused (outcome.RuleBroken c) k = refl
 
 enum-told : tie.Need-enum-told

@@ -1,4 +1,4 @@
--- `printing::lines::put_station` meets its contract: three numbers behind their labels, and the end of the line.
+-- `printing::lines::put_station` meets its contract: four numbers behind their labels, and the end of the line.
 use Rattle.printing.specs.Lines.{stationLine}
 use Rattle.printing.proofs.AppendLaws.{then}
 use native.Mathlib.Omega.{arith}
@@ -24,6 +24,12 @@ slice-aggregate-put-labelled-3 c = search needs
 put-labelled-requires-3 : tie.Need-put-labelled-requires-3
 put-labelled-requires-3 c κs = search needs
 
+slice-aggregate-put-labelled-4 : tie.Need-slice-aggregate-put-labelled-4
+slice-aggregate-put-labelled-4 c = search needs
+
+put-labelled-requires-4 : tie.Need-put-labelled-requires-4
+put-labelled-requires-4 c κs = search needs
+
 slice-aggregate-put-text : tie.Need-slice-aggregate-put-text
 slice-aggregate-put-text c = search needs
 
@@ -36,11 +42,12 @@ same-length c = search needs
 returns : tie.Need-returns
 unfolding stationLine
 returns c =
-    let number = c .before .before .before .before .before .before .before .before .before .before .before .before .before .before .before .before .before .put-labelled .ensures in
-    let code = c .before .before .before .before .before .before .before .before .before .before .before .before .put-labelled2 .ensures in
-    let twin = c .before .before .before .before .before .before .before .put-labelled3 .ensures in
+    let number = c .before .before .before .before .before .before .before .before .before .before .before .before .before .before .before .before .before .before .before .before .before .before .put-labelled .ensures in
+    let code = c .before .before .before .before .before .before .before .before .before .before .before .before .before .before .before .before .before .put-labelled2 .ensures in
+    let twin = c .before .before .before .before .before .before .before .before .before .before .before .before .put-labelled3 .ensures in
+    let clash = c .before .before .before .before .before .before .before .put-labelled4 .ensures in
     let end = c .before .before .put-text .ensures in
-    (then (number .0) (then (code .0) (then (twin .0) end)), omega (arith, number .1, code .1, twin .1, end .ends))
+    (then (number .0) (then (code .0) (then (twin .0) (then (clash .0) end))), omega (arith, number .1, code .1, twin .1, clash .1, end .ends))
 
 pub put-station-spec : {M : Type 1} → statement M
 put-station-spec =
@@ -52,6 +59,8 @@ put-station-spec =
     put-labelled-requires-2
     slice-aggregate-put-labelled-3
     put-labelled-requires-3
+    slice-aggregate-put-labelled-4
+    put-labelled-requires-4
     slice-aggregate-put-text
     put-text-requires
     same-length

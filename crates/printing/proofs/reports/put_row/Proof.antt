@@ -28,6 +28,9 @@ row-code-requires c κs = search needs
 row-twin-requires : tie.Need-row-twin-requires
 row-twin-requires c κs = search needs
 
+row-clash-requires : tie.Need-row-clash-requires
+row-clash-requires c κs = search needs
+
 add-k : tie.Need-add-k
 add-k c = search needs
 
@@ -42,10 +45,10 @@ same-length c = search needs
 
 returns-2 : tie.Need-returns-2
 returns-2 c =
-    let a = c .before .before .before .before .before .before .before .before .before .before .args in
+    let a = c .before .before .before .before .before .before .before .before .before .before .before .args in
     let s = now (a .sheet) in
-    let broken : bad s (a .i + 1) ≡ true = sym (c .before .before .before .before .before .before .before .is-bad .ensures) ∙ not-false _ (c .before .before .before .before .before .before .if1 .left) in
-    (rw (bad-row s (a .i) broken (c .before .before .before .before .before .row-code .ensures) (c .before .before .before .before .row-twin .ensures)) (c .before .before .put-station .ensures .0), search needs)
+    let broken : bad s (a .i + 1) ≡ true = sym (c .before .before .before .before .before .before .before .before .is-bad .ensures) ∙ not-false _ (c .before .before .before .before .before .before .before .if1 .left) in
+    (rw (bad-row s (a .i) broken (c .before .before .before .before .before .before .row-code .ensures) (c .before .before .before .before .before .row-twin .ensures) (c .before .before .before .before .row-clash .ensures)) (c .before .before .put-station .ensures .0), search needs)
 
 pub put-row-spec : {M : Type 1} → statement M
 put-row-spec =
@@ -55,6 +58,7 @@ put-row-spec =
     returns
     row-code-requires
     row-twin-requires
+    row-clash-requires
     add-k
     cast-put-station
     put-station-requires

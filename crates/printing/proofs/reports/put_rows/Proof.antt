@@ -15,7 +15,7 @@ use Rattle.printing.proofs.reports.put_rows.Tie as tie
 
 abbrev Inv-loop : tie.InvT-loop
 Inv-loop out₀ start sheet n end₀ i₀ out end i =
-    (i ≤ n) × (length out ≡ length out₀) × (end ≤ start + 30 * i) × Appended out₀ start (rows (rowLine sheet) i) out end
+    (i ≤ n) × (length out ≡ length out₀) × (end ≤ start + 40 * i) × Appended out₀ start (rows (rowLine sheet) i) out end
 
 abbrev μ-loop : tie.MeasureT-loop
 μ-loop out₀ start sheet n end₀ i₀ out end i = n - i
