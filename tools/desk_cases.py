@@ -3,10 +3,12 @@
 Also crates/desk/stdin and stdout: the two-station file of the paper and its three lines.
 
 Nothing here reads a record or judges one. Each record is built from good fields with one of them damaged, and beside each
-damage stands, by hand, the code that the paper's table gives it. A twin is known from whose 13X a station was given.
+damage stands, by hand, the code that the paper's table gives it. A twin is known from whose 13X a station was given, and a
+clash from the site that it was given and from the place, named by hand beside its spelling, and the height.
 
 usage: desk_cases.py     from the repository's root
 """
+import collections
 import os
 
 from makers import asked
@@ -79,8 +81,14 @@ GOOD = [
     {"6A": "FL", "4A": "1010_MUSTER_R       "},
     {"1A": " " * 11, "1A unit": " ", "8B1": " " * 6},
     {"1Y": " " * 11, "1Y unit": " ", "9G": " " * 4},
-    {"2C": " " * 8, "2W": "01011901", "2Z": "31129999", "4C": "180W000000S0000"},
+    {"2C": " " * 8, "2W": "01011901", "2Z": "31129999", "4C": "016E22 548N12 0"},
 ]
+
+# Spellings of 4C, and the name of the place that each means.
+PLACES = {
+    "016E220548N1200": "S", "016E22 548N12 0": "S", "016E220648N1200": "a minute further east", "000E000000N0000": "zero", "000W000000N0000": "zero",
+    "180E000000N0000": "180 degrees east", "180W000000N0000": "180 degrees west",
+}
 
 # What breaks each rule of the header: the code, and the field that is changed.
 BROKEN_HEADER = {
@@ -115,26 +123,42 @@ def header(n, changes=None):
     return record(HEADER, {"count": "%6d" % n, **(changes or {})})
 
 
-def reference(owner, code):
-    """The 13X of station number `owner`; one that breaks rule 30 has its letters in lower case."""
-    return ("AUT2311ab01A%03d" if code == 30 else "AUT2311AB01A%03d") % owner
+def reference(owner, code, operator="11", site="AB01"):
+    """The 13X of station number `owner` at a site; one that breaks rule 30 has its letters in lower case."""
+    return "AUT23%s%sA%03d" % (operator, site.lower() if code == 30 else site, owner)
 
 
-def station(k, code=0, owner=None, good=0):
-    """Station k with its code, its 13X taken from station `owner` or its own: the record, and its code and twin."""
+# A station: its record, its code and its twin, and what a clash goes by, operator and site, and where and how high it stands.
+Made = collections.namedtuple("Made", "record code twin site stands")
+
+
+def station(k, code=0, owner=None, good=0, operator="11", site="AB01", place=None, height="  30"):
+    """Station k with its code, its 13X taken from station `owner` or its own."""
     owner = owner or k
-    changes = dict(BROKEN[code] if code else GOOD[good])
-    changes["13X"] = reference(owner, code)
-    return record(STATION, changes), code, owner if owner < k else 0
+    changes = {**(BROKEN[code] if code else GOOD[good]), "13X": reference(owner, code, operator, site)}
+    if place:
+        changes["4C"] = place
+    changes.setdefault("9Y", height)
+    stands = PLACES.get(changes.get("4C", STATION["4C"])), int(height)
+    return Made(record(STATION, changes), code, owner if owner < k else 0, operator + site, stands)
+
+
+def clash(stations, k):
+    """The number of the first station before number k of its site that stands elsewhere, both without a broken rule; else 0."""
+    own = stations[k - 1]
+    for i, other in enumerate(stations[:k - 1], 1):
+        if other.site == own.site and other.stands != own.stands and (other.code, own.code) == (0, 0):
+            return i
+    return 0
 
 
 def report(head, rows):
     lines = ["header %d" % head]
     bad = 0
-    for k, (code, twin) in enumerate(rows, 1):
-        if code or twin:
+    for k, (code, twin, clash) in enumerate(rows, 1):
+        if code or twin or clash:
             bad += 1
-            lines.append("station %d code %d twin %d" % (k, code, twin))
+            lines.append("station %d code %d twin %d clash %d" % (k, code, twin, clash))
     lines.append("stations %d bad %d" % (len(rows), bad))
     return "".join(line + "\n" for line in lines)
 
@@ -143,7 +167,8 @@ def filing(stations, head=0, count=None):
     """A file of these stations and what is printed of it."""
     changes = {name: text for name, text in BROKEN_HEADER.get(head, {}).items() if name != "count" or count is None}
     first = header(len(stations) if count is None else count, changes)
-    return first + b"".join(r for r, _, _ in stations), report(head, [(c, t) for _, c, t in stations])
+    rows = [(made.code, made.twin, clash(stations, k)) for k, made in enumerate(stations, 1)]
+    return first + b"".join(made.record for made in stations), report(head, rows)
 
 
 def full():
@@ -178,7 +203,28 @@ DAYS = [("2C", "29022024", 0), ("2C", "30022024", 8), ("2C", "29022023", 8), ("2
 def dated(date, head):
     """A filing whose header has a date and whose stations have these days, and what is printed of it."""
     stations = [record(STATION, {field: text, "13X": reference(k, 0)}) for k, (field, text, _) in enumerate(DAYS, 1)]
-    return header(len(DAYS), {"date": date}) + b"".join(stations), report(head, [(code, 0) for _, _, code in DAYS])
+    return header(len(DAYS), {"date": date}) + b"".join(stations), report(head, [(code, 0, 0) for _, _, code in DAYS])
+
+
+def sites():
+    """Stations of one site: at one place, elsewhere, higher, broken; and what makes another site."""
+    east = "016E220648N1200"
+    yield "site_one_place", *filing([station(1), station(2, place="016E22 548N12 0", height="0030"), station(3)])
+    yield "clash_height", *filing([station(1), station(2, height="  31")])
+    yield "clash_place", *filing([station(1), station(2, place=east)])
+    yield "clash_place_of_a_twin", *filing([station(1), station(2, owner=1, place=east)])
+    yield "site_first_broken", *filing([station(1, code=3), station(2, place=east)])
+    yield "site_last_broken", *filing([station(1), station(2, code=17, place=east)])
+    yield "clash_past_a_broken_one", *filing([station(1, code=39), station(2), station(3, place=east)])
+    yield "clash_with_the_second", *filing([station(1), station(2, place=east), station(3)])
+    yield "clash_with_the_lowest", *filing([station(1), station(2), station(3), station(4, place=east)])
+    yield "site_zero_east_and_west", *filing([station(1, place="000E000000N0000"), station(2, place="000W000000N0000")])
+    yield "clash_180_east_and_west", *filing([station(1, place="180E000000N0000"), station(2, place="180W000000N0000")])
+    yield "site_of_another_operator", *filing([station(1), station(2, operator="12", place=east)])
+    yield "site_of_another_letter", *filing([station(1), station(2, site="AB11", place=east)])
+    apart = [station(k, site="C%03d" % k) for k in range(1, 298)]
+    yield "clash_above_255", *filing(apart + [station(298, site="C257", height="  31")])
+    yield "clash_full", *filing([station(k, height="%4d" % k) for k in range(1, 299)])
 
 
 def cases():
@@ -202,6 +248,7 @@ def cases():
         yield "stations_%d" % n, *filing([station(k) for k in range(1, n)] + [station(n, code=7, owner=n)])
     yield "bad_256", *filing([station(k, code=17) for k in range(1, 257)])
     yield "twin_above_255", *filing([station(k) for k in range(1, 298)] + [station(298, owner=257)])
+    yield from sites()
     yield "empty", b"", "refused 2\n"
     yield "one_byte", b"0", "refused 2\n"
     yield "bytes_218", header(0)[:218], "refused 2\n"
@@ -209,7 +256,7 @@ def cases():
     yield "line_feed_at_the_end", filing(twice)[0] + b"\n", "refused 2\n"
     yield "bytes_65480", whole[:65480], "refused 2\n"
     yield "bytes_65482", whole + b" ", "refused 1\n"
-    yield "stations_299", header(299) + b"".join(station(k)[0] for k in range(1, 300)), "refused 1\n"
+    yield "stations_299", header(299) + b"".join(station(k).record for k in range(1, 300)), "refused 1\n"
 
 
 def write(path, content):

@@ -19,7 +19,7 @@ SPELLED = {
 }
 
 # The same for each of the good stations; zero degrees are spelled north.
-GOOD_SPELLED = [{}, {"8B1": "-005.0"}, {"4D": "00025"}, {}, {}, {}, {"4C": "180W000000N0000"}]
+GOOD_SPELLED = [{}, {"8B1": "-005.0"}, {"4D": "00025"}, {}, {}, {}, {"4C": "016E220548N1200"}]
 
 # A line has room for 219 columns, 29 semicolons and the line feed.
 LONGEST = 249
@@ -69,13 +69,25 @@ def told(given, refusal):
     return ""
 
 
-def bad(given, refusal, code=None):
+# The kinds of what is wrong with a field, in words.
+BYTE, RANGE, SHAPE, BETWEEN = "byte not admitted", "out of range", "cannot be read", "between fields"
+
+# The kind of what BROKEN has for each code.
+KINDS = {
+    **dict.fromkeys((1, 2, 3, 4, 5, 6, 7, 16, 20, 22, 27, 30), BYTE),
+    **dict.fromkeys((8, 11, 17, 18, 24, 25, 28), RANGE),
+    **dict.fromkeys((9, 10, 12, 13, 14, 15, 19, 21, 23, 26, 29), SHAPE),
+    **dict.fromkeys(range(31, 40), BETWEEN),
+}
+
+
+def bad(given, refusal, code=None, kind=None):
     """A line that is refused, and what is said of it."""
-    return given, "refused %d" % refusal + ("" if code is None else " code %d" % code) + told(given, refusal)
+    return given, "refused %d" % refusal + ("" if code is None else " code %d %s" % (code, kind)) + told(given, refusal)
 
 
-def damaged(changes, refusal, code=None, form=trimmed):
-    return bad(line(form(changes)), refusal, code)
+def damaged(changes, refusal, code=None, kind=None, form=trimmed):
+    return bad(line(form(changes)), refusal, code, kind)
 
 
 def coming_in(lines):
@@ -119,7 +131,7 @@ def many():
     kinds = [
         lambda k: good(k),
         lambda k: bad(b"\n", 10),
-        lambda k: damaged({"8B1": "30"}, 9, 15),
+        lambda k: damaged({"8B1": "30"}, 9, 15, SHAPE),
         lambda k: damaged({"6A": "FB "}, 11, form=columns),
         lambda k: bad(b"station %d code 17\n" % k, 10),
     ]
@@ -137,8 +149,8 @@ def cases():
     yield "carriage_returns", [bad(good(k)[0][:-1] + b"\r\n", 11) for k in range(3)]
     yield "quoted", [
         damaged({"6A": '"FB"'}, 11),
-        damaged({"4A": '"1010_MUSTER"'}, 9, 9),
-        damaged({"1A": '"938.2"'}, 9, 1),
+        damaged({"4A": '"1010_MUSTER"'}, 9, 9, BYTE),
+        damaged({"1A": '"938.2"'}, 9, 1, BYTE),
         bad(line('"%s"' % text for text in trimmed({})), 11),
         good(4),
     ]
@@ -149,16 +161,16 @@ def cases():
         bad(line(trimmed({})).replace(b";", b"\t"), 10),
         bad(b"\n", 10),
         bad(b";\n", 10),
-        bad(b";" * 29 + b"\n", 9, 2 + 1),                     # thirty blank fields: 1A and its unit may be blank, 1Z not
+        bad(b";" * 29 + b"\n", 9, 2 + 1, BYTE),                     # thirty blank fields: 1A and its unit may be blank, 1Z not
         bad(b" \n", 10),
         good(3),
     ]
-    yield "codes", [damaged({"13X": reference(1, code), **changes}, 9, code, columns) for code, changes in BROKEN.items()]
+    yield "codes", [damaged({"13X": reference(1, code), **changes}, 9, code, KINDS[code], columns) for code, changes in BROKEN.items()]
     yield "typed_as_numbers", [
-        damaged({"8B1": "30"}, 9, 15),
-        damaged({"2C": "1032021"}, 9, 8),
-        damaged({"1A": "938,2"}, 9, 1),
-        damaged({"9A": "120"}, 9, 17),
+        damaged({"8B1": "30"}, 9, 15, SHAPE),
+        damaged({"2C": "1032021"}, 9, 8, SHAPE),
+        damaged({"1A": "938,2"}, 9, 1, BYTE),
+        damaged({"9A": "120"}, 9, 17, SHAPE),
     ]
     yield "fields_too_long", [too_long(name) for name in STATION]
     yield "first_reason", [
@@ -175,24 +187,24 @@ def cases():
     yield "comment", [good(1), good(2), bad(b"station 3 code 17\n", 10), good(4)]
     yield "titles", [bad(line(STATION), 11), good(1)]
     yield "byte_order_mark", [bad(b"\xef\xbb\xbf" + good(0)[0].replace(b"938.2", b"00938.20000"), 11), good(1)]
-    yield "byte_order_mark_before_a_short_field", [bad(b"\xef\xbb\xbf" + good(0)[0], 9, 1), good(1)]
+    yield "byte_order_mark_before_a_short_field", [bad(b"\xef\xbb\xbf" + good(0)[0], 9, 1, BYTE), good(1)]
     yield "nul_bytes", [
-        damaged({"4B": "A\0T"}, 9, 10),
+        damaged({"4B": "A\0T"}, 9, 10, BYTE),
         bad(b"\0" * 3 + b"\n", 10),
         bad(b"\0" * 400 + b"\n", 10),
         damaged({"13X": reference(1, 0) + "\0"}, 11),
         good(1),
         bad(b"\0", 10),
     ]
-    yield "other_bytes", [damaged({"4A": "1010_M\x7f"}, 9, 9), bad(bytes(c for c in range(256) if c != 10) + b"\n", 10), good(1)]
+    yield "other_bytes", [damaged({"4A": "1010_M\x7f"}, 9, 9, BYTE), bad(bytes(c for c in range(256) if c != 10) + b"\n", 10), good(1)]
     yield "lines_298", [good(k) for k in range(1, 299)]
     yield "lines_300", [good(k, columns) for k in range(1, 301)]
     yield "bad_behind_298", [good(k) for k in range(1, 299)] + [
-        damaged({"6A": "XX"}, 9, 4), good(300), bad(b"\n", 10), too_long("6A"), good(303), bad(good(304)[0][:-1], 10),
+        damaged({"6A": "XX"}, 9, 4, BYTE), good(300), bad(b"\n", 10), too_long("6A"), good(303), bad(good(304)[0][:-1], 10),
     ]
     yield "bad_among_good", [
-        good(1), bad(b"\n", 10), good(2), damaged({"9A": "360.0"}, 9, 17), too_long("4B"), good(3), long_lines(5000)[0], good(4), good(5),
-        damaged(BROKEN[39], 9, 39),
+        good(1), bad(b"\n", 10), good(2), damaged({"9A": "360.0"}, 9, 17, RANGE), too_long("4B"), good(3), long_lines(5000)[0], good(4), good(5),
+        damaged(BROKEN[39], 9, 39, BETWEEN),
     ]
     yield "many", many()
     yield "line_feeds", [bad(b"\n", 10)] * 5000
@@ -207,7 +219,7 @@ def main():
         write("tests/list_in/%s.out" % name, written)
         write("tests/list_in/%s.err" % name, said)
         names += 1
-    given, written, _ = coming_in([good(0), damaged({"9A": "360.0"}, 9, 17)])
+    given, written, _ = coming_in([good(0), damaged({"9A": "360.0"}, 9, 17, RANGE)])
     write("crates/list_in/stdin", given)
     write("crates/list_in/stdout", written)
     print(names, "cases")
