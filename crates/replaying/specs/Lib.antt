@@ -1,0 +1,4 @@
+pub mod Traces
+pub mod Replaying
+pub mod Promises
+pub mod Examples
