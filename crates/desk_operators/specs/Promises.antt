@@ -1,0 +1,28 @@
+-- What the call on the operators of a file promises to callers in C, as a relation between what it is given, its answer and what it leaves in every
+-- lent byte and number.
+use Prim.Native.Nat.{ℕ, _-_, _/_}
+use mathlib.Core.Path.{_≡_}
+use mathlib.Core.List.{List, _++_}
+use lib.ListN.{length, getD, drop}
+use Rattle.basics.specs.Outcomes.{refusal}
+use Rattle.forms.specs.Counting.{rows}
+use Rattle.operator_pages.specs.declared.OperatorRow.{OperatorRow}
+use Rattle.operator_pages.specs.Calls.{pageOutcome, rowsFor, noRow}
+use Rattle.desk_operators.specs.Rows.{operatorWidth, spellRow}
+
+-- How many rows there is room for.
+abbrev pub roomIn : List ℕ → ℕ
+roomIn out = length out / operatorWidth
+
+-- Rows, one after the other.
+unfoldable pub spelledRows : List OperatorRow → List ℕ
+spelledRows page = rows (λ k. spellRow (getD page (k - 1) noRow)) (length page)
+
+-- The lent bytes as the call leaves them: those past the last row given keep what they held.
+unfoldable pub bytesAfter : List OperatorRow → List ℕ → List ℕ
+bytesAfter page out = spelledRows page ++ drop (length (spelledRows page)) out
+
+-- `desk_operators` of a file.
+abbrev pub OperatorsTold : List ℕ → List ℕ → ℕ → List ℕ → ℕ → Type 0
+OperatorsTold file out answer after count =
+    (answer ≡ refusal (pageOutcome file (roomIn out))) × (after ≡ bytesAfter (rowsFor file (roomIn out)) out) × (count ≡ length (rowsFor file (roomIn out)))

@@ -1,0 +1,5 @@
+pub mod HeardLaws
+pub mod TableLaws
+pub mod TallyLaws
+pub mod ExtremeLaws
+pub mod SumLaws

@@ -1,0 +1,29 @@
+-- `operator_counts::step_of` meets its contract, unit by unit.
+use Rattle.operator_counts.specs.Hundredths.{stepOf}
+use borrow.Author.Needs.{needs}
+use Rattle.operator_counts.proofs.step_of.Statement.{statement}
+use Rattle.operator_counts.proofs.step_of.Tie as tie
+
+enum-told : tie.Need-enum-told
+enum-told c = search needs
+
+enum-told-2 : tie.Need-enum-told-2
+enum-told-2 c = search needs
+
+enum-told-3 : tie.Need-enum-told-3
+enum-told-3 c = search needs
+
+returns : tie.Need-returns
+unfolding stepOf
+returns c = rw (c .enum-told .given .1)
+
+returns-2 : tie.Need-returns-2
+unfolding stepOf
+returns-2 c = rw (c .enum-told2 .given .1)
+
+returns-3 : tie.Need-returns-3
+unfolding stepOf
+returns-3 c = rw (c .enum-told3 .given .1)
+
+pub step-of-spec : {M : Type 1} → statement M
+step-of-spec = tie.close (tie.spec enum-told enum-told-2 enum-told-3 returns returns-2 returns-3)

@@ -1,0 +1,2 @@
+pub mod Hundredths
+pub mod Counts

@@ -1,0 +1,3 @@
+pub mod Frequencies
+pub mod Lines
+pub mod Promises

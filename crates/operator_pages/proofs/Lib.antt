@@ -1,0 +1,5 @@
+pub mod PackLaws
+pub mod PageLaws
+pub mod OrderLaws
+pub mod PageTheorems
+pub mod Unique
