@@ -1,8 +1,11 @@
-// What the library tells of a line that is refused: with 10 its marks, with 11 its first field that is too long.
+// What the library tells of a line that is refused: with 9 the kind of what is wrong, with 10 its marks, with 11 its first field that is too long.
 use columns::texts::trimmed_length;
 use faults::fields::long_field;
 use faults::marking::line_marks;
+use flaws::Flaw;
 use gathering::Gathered;
+use semicolons::filling::put_fields;
+use station_flaws::explain_station;
 
 // The paper's names of the thirty fields, in column order, each in ten places.
 const NAMES: [u8; 300] =
@@ -87,8 +90,39 @@ fn tell_field(line: &[u8; 250], held: usize) {
     tell_count(b" most ", field.most, true);
 }
 
-// Says why a line is refused with 10 or 11.
+// Says what is wrong with the field that a code names.
+fn tell_flaw(flaw: Flaw) {
+    match flaw {
+        Flaw::None => {}
+        Flaw::Byte => {
+            io::write_all(2, b" byte not admitted");
+        }
+        Flaw::Range => {
+            io::write_all(2, b" out of range");
+        }
+        Flaw::Shape => {
+            io::write_all(2, b" cannot be read");
+        }
+        Flaw::Between => {
+            io::write_all(2, b" between fields");
+        }
+    }
+}
+
+// Says what is wrong with the record that a line stands for.
+fn tell_kind(line: &[u8; 250], held: usize) {
+    let mut rec = [b' '; 219];
+    put_fields(held_part(line, held), &mut rec);
+    let told = explain_station(&rec);
+    let flaw = told.flaw;
+    tell_flaw(flaw);
+}
+
+// Says why a line is refused with 9, 10 or 11.
 pub(crate) fn tell_reason(line: &[u8; 250], gathered: Gathered, refusal: u8) {
+    if refusal == 9 {
+        tell_kind(line, gathered.held);
+    }
     if refusal == 10 {
         tell_marks(line, gathered);
     }

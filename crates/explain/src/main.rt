@@ -1,0 +1,42 @@
+// Explains a filing: reads it from standard input and prints, for each bad row, what is wrong with it.
+use explaining::write_explanation;
+use files::lengths::MOST_BYTES;
+use intake::read_input;
+ghost use mathlib.Core.Path.{_≡_};
+ghost use Prim.Native.Nat.{_+_, _*_};
+ghost use lib.ListN.{length};
+ghost use Rattle.basics.specs.Fields.{recordLength};
+ghost use Rattle.files.specs.Files.{mostStations};
+
+// The bytes of the longest file and one more, so that a longer one is told from it.
+const ROOM: usize = MOST_BYTES + 1;
+
+// Room for them.
+fn file_space() -> [u8; ROOM]
+    ensures { λ r. ⌜ recordLength * (mostStations + 1) + 1 ≡ length r ⌝ }
+{
+    [0; ROOM]
+}
+
+// Room for the longest explanation.
+fn explanation_space() -> [u8; 41984]
+    ensures { λ r. ⌜ 41984 ≡ length r ⌝ }
+{
+    [0; 41984]
+}
+
+// Reads at most that much of the file, and writes all of its explanation, or says what it could not do.
+fn main() {
+    let mut file = file_space();
+    let taken = read_input(&mut file);
+    if !taken.whole {
+        io::write_all(2, b"not read\n");
+        return;
+    }
+    let n = taken.bytes;
+    let mut lines = explanation_space();
+    let end = write_explanation(&file[..n], &mut lines);
+    if !io::write_all(1, &lines[..end]) {
+        io::write_all(2, b"not written\n");
+    }
+}

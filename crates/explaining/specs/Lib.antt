@@ -1,0 +1,3 @@
+pub mod Words
+pub mod Explanations
+pub mod Promises
