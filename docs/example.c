@@ -1,6 +1,6 @@
 /*
- * The desk from C: a filing judged, a field shown, a station replaced, the sheet mended and
- * verified, and a station as a line of a semicolon list.
+ * The desk from C: a filing judged, a field shown, a station replaced, the sheet mended with its
+ * twin gone and a clash come, and verified, and a station as a line of a semicolon list.
  *
  *     tools/hostlib target/host
  *     cc -Iinclude docs/example.c target/host/libdesk_c.a -o target/host/example
@@ -31,7 +31,7 @@ int main(int count, char **words)
     size_t length = fread(file, 1, sizeof file, input);
     fclose(input);
 
-    /* A sheet has three bytes for each station and ten more. */
+    /* A sheet has five bytes for each station and ten more. */
     size_t stations = length / DESK_RECORD_LENGTH > 0 ? length / DESK_RECORD_LENGTH - 1 : 0;
     size_t sheet_length = DESK_SHEET_LENGTH(stations);
     if (sheet_length > sizeof sheet)
@@ -42,13 +42,6 @@ int main(int count, char **words)
         return 1;
     }
     print_bytes(sheet, sheet_length);
-
-    /* The same sheet for a box that knows the old form. */
-    static uint8_t old_sheet[DESK_OLD_SHEET_LENGTH(DESK_MAX_STATIONS)];
-    size_t old_length = DESK_OLD_SHEET_LENGTH(stations);
-    refusal = desk_turn_back(file, length, sheet, sheet_length, old_sheet, old_length);
-    printf("refused %u, ", refusal);
-    print_bytes(old_sheet, old_length);
 
     /* Field 30 of station 1 is its reference, 13X. */
     size_t offset, field_length;
@@ -65,16 +58,22 @@ int main(int count, char **words)
     printf("refused %u, rows %zu\n", refusal, rows);
     print_bytes(sheet, sheet_length);
 
-    /* It is the sheet that the file is judged to; with a twin more it is wrong at that byte. */
+    /* Two metres higher it stands apart from station 2 of the same site, whose row has the clash. */
+    uint8_t code;
+    desk_set_ground(record, sizeof record, 32, &code);
+    refusal = desk_replace(file, length, sheet, sheet_length, 1, record, sizeof record, &rows);
+    printf("refused %u, rows %zu\n", refusal, rows);
+    print_bytes(sheet, sheet_length);
+
+    /* It is the sheet that the file is judged to; without the clash it is wrong at that byte. */
     uint8_t found;
     refusal = desk_verify(file, length, sheet, sheet_length, &found, &offset);
     printf("refused %u, %s\n", refusal, found == DESK_FOUND_RIGHT ? "right" : "wrong");
-    sheet[5] = 1;
+    sheet[9] = 0;
     refusal = desk_verify(file, length, sheet, sheet_length, &found, &offset);
     printf("refused %u, %s at %zu\n", refusal, found == DESK_FOUND_WRONG ? "wrong" : "right", offset);
 
     /* An azimuth of 360.0 breaks rule 17, and the record keeps its bytes. */
-    uint8_t code;
     refusal = desk_set_azimuth(record, sizeof record, 1, 3600, &code);
     printf("refused %u, code %u\n", refusal, code);
 

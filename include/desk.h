@@ -1,16 +1,22 @@
 /*
- * desk.h - filing files: read, judged, replaced, verified, shown, set and listed.
+ * desk.h - filing files: read, judged, replaced, verified, shown, set, listed and counted.
  *
  * A filing file is one header and n stations, 0 <= n <= 298, each a record of 219 bytes, with
- * nothing between them. Its sheet has 3n + 10 bytes: for each station its code and its twin (two
- * bytes), then the trailer: distance from the sheet's end back to its first row (two bytes),
- * width 3, header code, lowest bad row or 0 (two bytes), number of bad rows (two bytes), "2B".
- * Numbers of two bytes have the high one first.
+ * nothing between them. Its sheet has 5n + 10 bytes: for each station its code, its twin (two
+ * bytes) and its clash (two bytes), then the trailer: distance from the sheet's end back to its
+ * first row (two bytes), width 5, header code, lowest bad row or 0 (two bytes), number of bad rows
+ * (two bytes), "2C". Numbers of two bytes have the high one first.
+ *
+ * A twin is the lowest station before this one that bears its 13X, a clash the lowest before it
+ * whose operator and site, places 6 to 11 of 13X, are the same while the value of 4C or of 9Y is
+ * another, neither of the two breaking a rule; 0 if there is none. Sheets of older forms end in "2A"
+ * (2n + 8 bytes) or "2B" (3n + 10 bytes) and say nothing of clashes. By their length or their mark
+ * they are refused with 3 or 4: judge the file again.
  *
  * Every function but desk_carriage_number and desk_rules returns the number of its refusal,
  * DESK_DONE (0) if there is none. Where more than one refusal applies the lowest number is given,
  * unless the function says otherwise. A refused call changes no lent byte. The answers behind
- * `code`, `rows`, `found`, `offset` and `length` are always written; `code` is 0 with any refusal
+ * `code`, `rows`, `found`, `offset`, `length` and `count` are always written; `code` is 0 with any refusal
  * but DESK_REFUSED_RULE_BROKEN (9).
  *
  * Each pointer and the length after it are one lent slice. No pointer may be NULL, even where the
@@ -31,22 +37,21 @@ extern "C" {
 #define DESK_RECORD_LENGTH 219u
 #define DESK_MAX_STATIONS 298u
 #define DESK_MAX_FILE_LENGTH 65481u
-#define DESK_SHEET_LENGTH(stations) (3u * (stations) + 10u)
-
-/* The same of the old form, which desk_turn_forward and desk_turn_back know. */
-#define DESK_OLD_MAX_STATIONS 250u
-#define DESK_OLD_SHEET_LENGTH(stations) (2u * (stations) + 8u)
+#define DESK_SHEET_LENGTH(stations) (5u * (stations) + 10u)
 
 /* The longest line that is written: 219 columns, 29 semicolons and the line feed. */
 #define DESK_MAX_LINE_LENGTH 249u
+
+/* The length of a save in a trace. */
+#define DESK_SAVE_LENGTH 222u
 
 /* The numbers of the refusals. */
 enum desk_refusal {
     DESK_DONE = 0,                       /* not refused */
     DESK_REFUSED_FILE_TOO_LONG = 1,      /* the file is longer than 65,481 bytes */
     DESK_REFUSED_FILE_NOT_RECORDS = 2,   /* the file's length is zero or no multiple of 219 */
-    DESK_REFUSED_SHEET_LENGTH = 3,       /* the lent sheet is not exactly 3n + 10 bytes */
-    DESK_REFUSED_SHEET_TRAILER = 4,      /* the trailer lacks "2B", width 3 or distance 3n + 10 */
+    DESK_REFUSED_SHEET_LENGTH = 3,       /* the lent sheet is not exactly 5n + 10 bytes */
+    DESK_REFUSED_SHEET_TRAILER = 4,      /* the trailer lacks "2C", width 5 or distance 5n + 10 */
     DESK_REFUSED_NO_SUCH_RECORD = 5,     /* the record number is above n (0 is the header) */
     DESK_REFUSED_RECORD_LENGTH = 6,      /* the record offered is not 219 bytes */
     DESK_REFUSED_BUFFER_LENGTH = 7,      /* the buffer to write into is not 219 bytes */
@@ -55,11 +60,16 @@ enum desk_refusal {
     DESK_REFUSED_NOT_A_LINE = 10,        /* not its semicolons and one line feed, the last byte */
     DESK_REFUSED_FIELD_TOO_LONG = 11,    /* a field of the line is longer than its columns */
     DESK_REFUSED_BUFFER_TOO_SHORT = 12,  /* the lent buffer is shorter than the line */
-    DESK_REFUSED_OLD_FORM_TOO_MANY = 13, /* an old form's sheet of more than 250 stations */
+    /* 13 is given by no call */
     DESK_REFUSED_NOT_TWELVE_DIGITS = 14, /* the vehicle number has not twelve digits */
     DESK_REFUSED_LAST_DIGIT_WRONG = 15,  /* the vehicle number's last digit is wrong */
-    DESK_REFUSED_NOT_MOBILE = 16         /* the defaults are not an accepted ML station */
+    DESK_REFUSED_NOT_MOBILE = 16,        /* the defaults are not an accepted ML station */
+    DESK_REFUSED_TOO_FEW_ROWS = 17       /* fewer rows are lent than operators are found */
 };
+
+/* The bytes of a row of desk_operators, and the most operators that a file can have. */
+#define DESK_OPERATOR_WIDTH 40u
+#define DESK_MAX_OPERATORS 100u
 
 /* What desk_verify finds. */
 enum desk_found {
@@ -77,8 +87,8 @@ uint8_t desk_judge(const uint8_t *file, size_t file_length,
 
 /*
  * Puts a record into the file as number `number`, 0 being the header, and mends the sheet: row
- * `number` and every later row whose 13X equals the old or the new one are written, the trailer
- * follows. Records that break rules are put in as well. `rows` is the number of rows written, 0
+ * `number` and every later row whose operator and site, places 6 to 11 of 13X, equal the old or the
+ * new ones are written, the trailer follows. Records that break rules are put in as well. `rows` is the number of rows written, 0
  * for the header and on a refusal.
  * Refusals: 1 to 6.
  */
@@ -100,25 +110,18 @@ uint8_t desk_verify(const uint8_t *file, size_t file_length,
                     uint8_t *found, size_t *offset);
 
 /*
- * Sheets of the old form have 2n + 8 bytes: a twin, a lowest bad row and a number of bad rows of one
- * byte each, width 2, and "2A" as their last two bytes, by which they are known. Both calls take
- * the list, a sheet of it as `given` and one of the other form as `lent`. Codes, twins, header
- * code, lowest bad row and number of bad rows are carried over as they are said, so that a sheet
- * that is right for the list stays right.
- * Refusals, in this order: 1, 2, 3 (either sheet, by its own form), 4 (`given`, by its own form),
- * 13.
+ * Writes a row of DESK_OPERATOR_WIDTH bytes for each operator that has a station with code 0,
+ * ascending by code, one after the other from the start of `out`: columns 1-2 the operator's code
+ * (places 6 and 7 of 13X), 3-5 its stations with code 0, 6-8 those of them with a transmit
+ * frequency, 9-24 the lowest and 25-40 the highest of these in hundredths of a hertz. All columns
+ * hold digits; 9-40 hold spaces where no station has a transmit frequency. `count` is the number of
+ * rows, 0 on a refusal. Bytes past the last row keep what they held; what is left of `out` behind
+ * its last whole row is no room.
+ * Refusals: 1, 2, 17.
  */
-
-/* Turns a sheet of the old form, `given`, into one of DESK_SHEET_LENGTH bytes. */
-uint8_t desk_turn_forward(const uint8_t *file, size_t file_length,
-                          const uint8_t *given, size_t given_length,
-                          uint8_t *lent, size_t lent_length);
-
-/* Turns a sheet into one of the old form, of DESK_OLD_SHEET_LENGTH bytes; of numbers the low byte
- * is carried. */
-uint8_t desk_turn_back(const uint8_t *file, size_t file_length,
-                       const uint8_t *given, size_t given_length,
-                       uint8_t *lent, size_t lent_length);
+uint8_t desk_operators(const uint8_t *file, size_t file_length,
+                       uint8_t *out, size_t out_length,
+                       size_t *count);
 
 /*
  * Finds field `field` of record `number`, 0 being the header, in the file: its first byte stands
@@ -134,6 +137,13 @@ uint8_t desk_show(const uint8_t *file, size_t file_length,
  * Refusals: 6, 9.
  */
 uint8_t desk_station_code(const uint8_t *record, size_t record_length, uint8_t *code);
+
+/*
+ * The same, and `kind` is that of what is wrong with the field of the code: 1 a byte that the field admits at no place, 2 a number, place
+ * or date outside its range or a unit at odds with its frequency, 3 what cannot be read, 4 a rule between fields (codes 31 to 39), and 0
+ * where no rule is broken or the record is refused with 6. docs/RULES.md says for each code what each kind means. Refusals: 6, 9.
+ */
+uint8_t desk_station_kind(const uint8_t *record, size_t record_length, uint8_t *code, uint8_t *kind);
 
 /*
  * Judges one record as a header; `code` is that of its first broken rule, 1 to 14.
@@ -184,6 +194,22 @@ uint8_t desk_set_height(uint8_t *record, size_t record_length,
 /* Sets the height above ground 9Y, in metres; it is never blank. */
 uint8_t desk_set_ground(uint8_t *record, size_t record_length,
                         int64_t metres, uint8_t *code);
+
+/*
+ * Runs the day again: judges the morning's list into the sheet, and then runs the saves of a trace
+ * on both, one after the other, as desk_replace does. A save has DESK_SAVE_LENGTH bytes: three digits
+ * for the record's number, 000 being the header, then the record. One whose number is above n is
+ * counted in `refused` and the run goes on, every other in `accepted`. A save whose first three bytes
+ * are not digits stops the run, and so does a last one cut short; `stopped` is its number, counted
+ * from 1, or 0, it is counted in neither, and the saves before it stand. A trace may be handed over
+ * in parts of whole saves, each call on what the one before left: lists and sheets end the same and
+ * counts add up. On a refusal all three numbers are 0.
+ * Refusals: 1, 2, 3.
+ */
+uint8_t desk_replay(uint8_t *file, size_t file_length,
+                    uint8_t *sheet, size_t sheet_length,
+                    const uint8_t *trace, size_t trace_length,
+                    size_t *accepted, size_t *refused, size_t *stopped);
 
 /*
  * A line of a semicolon list is a station's thirty fields in column order, joined by semicolons
@@ -258,8 +284,8 @@ size_t desk_carriage_number(const uint8_t *name, size_t name_length, size_t *off
  * The number of the rules that records are judged by: 1 for those of document 01, 2 since dates
  * have to be days of the calendar. It is counted up by each change of a rule, and a sheet does not
  * say by which rules it was judged: keep this number beside each sheet that you store, and judge
- * the file again with desk_judge where the number kept is another or there is none. Turning a sheet
- * changes no rule: the number kept beside it stays. This call has no refusal.
+ * the file again with desk_judge where the number kept is another or there is none. A new form of
+ * the sheet changes no rule of a record: its length and its mark tell it. This call has no refusal.
  */
 uint32_t desk_rules(void);
 

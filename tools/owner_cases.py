@@ -91,16 +91,22 @@ def cases():
     yield "dotted_dates", 1, "list_in list.csv", {"list.csv": dotted}, {}
     twice = filing([RECORDS[0], RECORDS[1], RECORDS[0]])
     broken = filing([RECORDS[0], record(STATION, {"9A": "360.0"})])
+    moved = filing([RECORDS[0], changed(2, _9Y="0031")[1]])
     yield "desk_on_a_twin", 1, "desk my", {"my": twice}, {}
+    yield "desk_on_a_clash", 1, "desk my", {"my": moved}, {}
     yield "desk_on_a_bad_station", 1, "desk my", {"my": broken}, {}
     yield "desk_on_a_bad_header", 1, "desk my", {"my": header(1, {"version": "2.0"}) + RECORDS[0]}, {}
     yield "desk_on_a_header_alone", 1, "desk my", {"my": header(0)}, {}
     yield "desk_on_no_filing", 1, "desk my", {"my": SEVEN[:-1]}, {}
     yield "desk_on_a_good_filing", 0, "desk my; desk <my; desk - <my; desk -- my", {"my": SEVEN}, {}
+    yield "operators_of_a_bad_station", 1, "operators my", {"my": broken}, {}
+    yield "operators_of_a_header_alone", 1, "operators my", {"my": header(0)}, {}
+    yield "operators_of_no_filing", 1, "operators my", {"my": SEVEN[:-1]}, {}
+    yield "operators_of_a_good_filing", 0, "operators my; operators <my; operators - <my; operators -- my", {"my": SEVEN}, {}
     yield "list_out_of_a_bad_station", 1, "list_out --titles my", {"my": broken}, {}
     yield "list_out_of_no_filing", 1, "list_out --titles my", {"my": SEVEN[:-1]}, {}
     yield "list_out_of_a_header_alone", 1, "list_out my", {"my": header(0)}, {}
-    for tool, words in (("desk", ""), ("list_out", ""), ("list_in", ""), ("clean_list", ""), ("filing", ""), ("carriages", ""), ("changes", "my "), ("verify", "my "), ("file_list", "my list.csv ")):
+    for tool, words in (("desk", ""), ("operators", ""), ("list_out", ""), ("list_in", ""), ("clean_list", ""), ("filing", ""), ("carriages", ""), ("changes", "my "), ("verify", "my "), ("replay", "my "), ("file_list", "my list.csv ")):
         yield tool + "_on_a_directory", 2, "mkdir folder; %s %sfolder; status=$?; rmdir folder; exit $status" % (tool, words), some, {}
         yield tool + "_on_no_file", 2, "%s %snowhere/none" % (tool, words), some, {}
         yield tool + "_with_an_unknown_option", 2, "%s --all %smy" % (tool, words), some, {}
@@ -148,6 +154,8 @@ def cases():
     yield "names_with_spaces_and_dashes", 0, "file_list --yes -- 'my filing' '-list of ours.csv' -new && desk -- -new", {"my filing": SEVEN, "-list of ours.csv": LIST}, {"-new": SEVEN}
     yield "the_list_as_new", 2, "file_list --yes my list.csv list.csv", some, {}
     yield "twins_are_filed_and_named", 1, "file_list --yes my list.csv my", {"my": SEVEN, "list.csv": LIST + LINES[2]}, {"my": filing(RECORDS + [RECORDS[2]])}
+    higher = changed(8, _9Y="0031")
+    yield "clashes_are_filed_and_named", 1, "file_list --yes my list.csv my", {"my": SEVEN, "list.csv": LIST + higher[0]}, {"my": filing(RECORDS + [higher[1]])}
     yield "a_bad_header", 1, "file_list --yes my list.csv new", {"my": header(7, {"version": "1.1"}) + b"".join(RECORDS), "list.csv": LIST}, {}
     yield "old_is_no_filing", 1, "file_list --yes my list.csv new", {"my": SEVEN[:-1], "list.csv": LIST}, {}
     yield "a_first_list", 0, "file_list --yes my list.csv my", {"my": header(0), "list.csv": LIST}, {"my": SEVEN}
@@ -173,17 +181,40 @@ def cases():
     yield "changes_to_nothing", 1, "changes old new", {"old": SEVEN, "new": header(0)}, {}
     yield "changes_of_no_filing", 1, "changes old new", {"old": SEVEN, "new": SEVEN[:-1]}, {}
 
-    # Sheets from the partner desk: of seven good stations, and of three with a twin.
-    sheet = bytes(21) + b"\x00\x1f\x03\x00\x00\x00\x00\x002B"
+    # Sheets from the partner desk: of seven good stations, of three with a twin, and of two at one site that stand apart.
+    sheet = bytes(35) + b"\x00\x2d\x05\x00\x00\x00\x00\x002C"
     yield "verify_a_right_sheet", 0, "verify my sheet; verify - sheet <my; verify my - <sheet", {"my": SEVEN, "sheet": sheet}, {}
-    yield "verify_a_right_twin", 0, "verify my sheet", {"my": twice, "sheet": bytes(8) + b"\x01\x00\x13\x03\x00\x00\x03\x00\x012B"}, {}
-    for what, place in (("first_byte", 0), ("code", 3), ("twin", 8), ("distance", 22), ("header_code", 24), ("lowest_row", 26), ("count", 28), ("mark", 30)):
+    yield "verify_a_right_twin", 0, "verify my sheet", {"my": twice, "sheet": bytes(12) + b"\x01\x00\x00\x00\x19\x05\x00\x00\x03\x00\x012C"}, {}
+    yield "verify_a_right_clash", 0, "verify my sheet", {"my": moved, "sheet": bytes(9) + b"\x01\x00\x14\x05\x00\x00\x02\x00\x012C"}, {}
+    for what, place in (("first_byte", 0), ("code", 5), ("twin", 12), ("clash", 34), ("distance", 36), ("header_code", 38), ("lowest_row", 40), ("count", 42), ("mark", 44)):
         wrong = sheet[:place] + bytes([sheet[place] ^ 1]) + sheet[place + 1:]
         yield "verify_a_wrong_" + what, 1, "verify my sheet", {"my": SEVEN, "sheet": wrong}, {}
     yield "verify_a_short_sheet", 1, "verify my sheet", {"my": SEVEN, "sheet": sheet[1:]}, {}
     yield "verify_an_old_sheet", 1, "verify my sheet", {"my": SEVEN, "sheet": bytes(14) + b"\x00\x16\x02\x00\x00\x002A"}, {}
+    yield "verify_a_sheet_without_clashes", 1, "verify my sheet", {"my": SEVEN, "sheet": bytes(21) + b"\x00\x1f\x03\x00\x00\x00\x00\x002B"}, {}
     yield "verify_no_filing", 1, "verify my sheet", {"my": SEVEN[:-1], "sheet": sheet}, {}
     yield "verify_both_on_standard_input", 2, "verify - -", {}, {}
+    # A day's saves: 222 bytes each, a number of three digits and a record.
+    new = [changed(k, _4Z="0%d99" % k)[1] for k in range(1, 8)]
+    day = {"morning": SEVEN, "trace": b"".join(b"%03d" % k + new[k - 1] for k in (2, 7, 2))}
+    left = {"list": filing([RECORDS[0], new[1], *RECORDS[2:6], new[6]])}
+    yield "replay_a_day", 0, "replay morning trace list sheet && verify list sheet; status=$?; rm sheet; exit $status", day, left
+    yield "replay_from_standard_input", 0, "replay - trace <morning && replay morning - <trace", day, {}
+    yield "replay_no_saves", 0, "replay morning trace list", {**day, "trace": b""}, {"list": SEVEN}
+    above = {**day, "trace": b"008" + new[0] + b"999" + new[0] + day["trace"]}
+    yield "replay_a_number_above_the_last", 1, "replay morning trace list", above, left
+    stopped = {**day, "trace": b"002" + new[1] + b" 03" + new[2] + b"004" + new[3]}
+    first = {"list": filing([RECORDS[0], new[1], *RECORDS[2:]])}
+    yield "replay_a_save_without_its_digits", 1, "replay morning trace list", stopped, first
+    yield "replay_a_save_cut_short", 1, "replay morning trace list", {**day, "trace": b"002" + new[1] + b"003" + new[2][:-1]}, first
+    yield "replay_a_header", 1, "replay morning trace list", {**day, "trace": b"000" + header(6)}, {"list": header(6) + b"".join(RECORDS)}
+    yield "replay_a_twin", 1, "replay morning trace list", {**day, "trace": b"003" + RECORDS[0]}, {"list": filing([*RECORDS[:2], RECORDS[0], *RECORDS[3:]])}
+    yield "replay_no_filing", 1, "replay morning trace list", {**day, "morning": SEVEN[:-1]}, {}
+    for what in ("morning", "trace"):
+        yield "replay_over_the_" + what, 2, "replay morning trace %s; replay morning trace list ./%s" % (what, what), day, {}
+    yield "replay_into_one_name_twice", 2, "replay morning trace list list", day, {}
+    yield "replay_into_no_folder", 2, "replay morning trace list nowhere/sheet", day, {}
+    yield "replay_both_on_standard_input", 2, "replay - -", day, {}
     # Carriages: the defaults, and a line for each.
     two = {"carriages.csv": DEPOT + b"318166502860;456.5;M;-10.0;AUT2611AB01A001\n318166502878;456.51250;M;-10.0;AUT2611AB01A002\n"}
     yield "carriages_listed", 0, "carriages carriages.csv", two, {}

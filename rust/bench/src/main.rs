@@ -20,10 +20,10 @@ One thread; every buffer is lent, stays in memory and was used before, so caches
 Records: 64 different stations in turn; respelling writes into one buffer of 219 bytes, listing
 into one of 249. Lines: those of the same stations in turn, filed into one buffer of 219 bytes.
 Judging: files whose 13X share their first nine bytes, or where it is said their last six, and
-all differ, so that no search for a twin ends early; two files in turn, one sheet. Verifying: the
-same files, each with the sheet that it is judged to.
+all differ, in their sites too, so that no search for a twin or a clash ends early; two files in turn,
+one sheet. At one site: 13X that differ in their last three digits alone. Verifying: the same files, each with the sheet that it is judged to.
 Replacing: one file and its own sheet, changed by every call. One row: each station in turn gets
-a 13X that no other has. n rows: all stations share one 13X; number 1 leaves it and comes back to
+a 13X that no other has. A day: 10,000 such saves in one call, which judges first. n rows: all stations share one 13X; number 1 leaves it and comes back to
 it by turns.
 ";
 
@@ -32,6 +32,8 @@ struct Size {
     n: usize,
     judge: Times,
     verify: Times,
+    operators: Times,
+    one_pass: f64,
     replace_one: Times,
     replace_all: Times,
 }
@@ -47,8 +49,10 @@ fn main() {
     row("station code, one field broken", station_code(&samples::broken_stations()));
     row("judge, n = 298", full.judge);
     row("verify a sheet that is right, n = 298", full.verify);
+    row("operators, n = 298, 100 of them", full.operators);
     row("replace that writes one row, n = 298", full.replace_one);
     row("replace that writes 298 rows, n = 298", full.replace_all);
+    row("run a day of 10,000 saves, n = 298", day(298));
     row("respell a station", respell());
     row("list a station (record to line)", list_out());
     row("file a line (line to record)", list_in());
@@ -67,9 +71,21 @@ fn main() {
         row(&format!("  judge, n = {n}"), judge(n, samples::far_reference));
         row(&format!("  replace, one row, n = {n}"), replace_one(n, samples::far_reference));
     }
+    println!("all stations at one site");
+    for n in [50, 298] {
+        row(
+            &format!("  judge, at one place, n = {n}"),
+            judge_files(n, [0, 300].map(|first| samples::one_place(n, first))),
+        );
+        row(&format!("  judge, at 64 places, n = {n}"), judge(n, samples::crowded_reference));
+    }
     println!("verify : judge, verified alone; each sheet is right");
     for Size { n, judge, verify, .. } in &sizes {
         println!("  n = {n:<4} {:38.2}", verify.verified / judge.verified);
+    }
+    println!("operators : codes of all stations, verified alone, by turns; a hundred operators, or as many as stations");
+    for Size { n, one_pass, .. } in &sizes {
+        println!("  n = {n:<4} {one_pass:38.2}");
     }
     println!("judge : replace at n = 298, verified alone");
     println!("  one row written {:30.1}", full.judge.verified / full.replace_one.verified);
@@ -82,6 +98,8 @@ fn measured(n: usize) -> Size {
         n,
         judge: judge(n, near),
         verify: verify(n, near),
+        operators: operators(n),
+        one_pass: one_pass(n),
         replace_one: replace_one(n, near),
         replace_all: replace_all(n),
     }
@@ -184,7 +202,10 @@ fn list_in() -> Times {
 
 fn judge(n: usize, reference: fn(usize) -> [u8; 15]) -> Times {
     let file_from = |first| samples::file(n, |index| reference(first + index));
-    let files = [file_from(0), file_from(300)];
+    judge_files(n, [file_from(0), file_from(300)])
+}
+
+fn judge_files(n: usize, files: [Vec<u8>; 2]) -> Times {
     let (mut our_sheet, mut their_sheet) = (vec![0; sheet_length(n)], vec![0; sheet_length(n)]);
     let mut ours = files.iter().cycle();
     let mut theirs = files.iter().cycle();
@@ -222,6 +243,85 @@ fn verify(n: usize, reference: fn(usize) -> [u8; 15]) -> Times {
             assert_eq!(peer::verify(file, sheet), Ok(None));
         },
     )
+}
+
+/// A day of 10,000 saves: each station in turn gets a 13X of its own, and comes back to its first.
+fn day(n: usize) -> Times {
+    let samples = samples::stations();
+    let morning = samples::file(n, samples::near_reference);
+    let save = |step: usize| {
+        let other = if (step / n).is_multiple_of(2) { 300 } else { 0 };
+        let reference = samples::near_reference(step % n + other);
+        let record = samples::referenced(&samples[step % samples::STATIONS], reference);
+        [format!("{:03}", step % n + 1).as_bytes(), &record].concat()
+    };
+    let trace: Vec<u8> = (0..10_000).flat_map(save).collect();
+    let (mut our_file, mut our_sheet) = (morning.clone(), vec![0; sheet_length(n)]);
+    let (mut their_file, mut their_sheet) = (morning.clone(), vec![0; sheet_length(n)]);
+    let times = compare(
+        || {
+            let answer = raw::replay(black_box(&mut our_file), &mut our_sheet, black_box(&trace));
+            assert_eq!(answer, (0, 10_000, 0, 0));
+        },
+        || {
+            let answer =
+                peer::replay(black_box(&mut their_file), &mut their_sheet, black_box(&trace));
+            assert_eq!(answer.map(|day| day.accepted), Ok(10_000));
+        },
+    );
+    assert_eq!((our_file, our_sheet), (their_file, their_sheet));
+    times
+}
+
+/// How much longer the page of a file takes than the codes of all its stations, which it needs.
+fn one_pass(n: usize) -> f64 {
+    let files = operated(n);
+    let found = n.min(100);
+    let mut pages = files.iter().cycle();
+    let mut codes = files.iter().cycle();
+    let mut rows = [0; 100 * 40];
+    let Times { verified: page, peer: all_codes } = compare(
+        || {
+            let file = black_box(pages.next().expect("a cycle"));
+            assert_eq!(raw::operators(file, black_box(&mut rows)), (0, found));
+        },
+        || {
+            for record in black_box(codes.next().expect("a cycle")).chunks_exact(219).skip(1) {
+                assert_eq!(raw::station_code(record), (0, 0));
+            }
+        },
+    );
+    page / all_codes
+}
+
+/// The page of a file whose operators differ as far as there are enough.
+fn operators(n: usize) -> Times {
+    let files = operated(n);
+    let found = n.min(100);
+    let mut ours = files.iter().cycle();
+    let mut theirs = files.iter().cycle();
+    let (mut our_rows, mut their_rows) = ([0; 100 * 40], [peer::Operator::default(); 100]);
+    compare(
+        || {
+            let file = black_box(ours.next().expect("a cycle"));
+            assert_eq!(raw::operators(file, black_box(&mut our_rows)), (0, found));
+        },
+        || {
+            let file = black_box(theirs.next().expect("a cycle"));
+            assert_eq!(peer::operators(file, black_box(&mut their_rows)), Ok(found));
+        },
+    )
+}
+
+/// Two files whose stations have a hundred operators in turn.
+fn operated(n: usize) -> [Vec<u8>; 2] {
+    [0, 37].map(|first| {
+        samples::file(n, |index| {
+            let mut reference = samples::near_reference(index);
+            reference[5..7].copy_from_slice(format!("{:02}", (first + index) % 100).as_bytes());
+            reference
+        })
+    })
 }
 
 /// Each station in turn gets a 13X of its own.

@@ -46,6 +46,25 @@ pub fn far_reference(index: usize) -> [u8; 15] {
     reference
 }
 
+/// A 13X of one site, which differs from others in its last three digits alone.
+pub fn crowded_reference(index: usize) -> [u8; 15] {
+    let mut reference = *b"AUT2311AB01A000";
+    reference[12..].copy_from_slice(format!("{:03}", index % 1000).as_bytes());
+    reference
+}
+
+/// A file of stations at one site and one place, with numbers from `first` on.
+pub fn one_place(count: usize, first: usize) -> Vec<u8> {
+    let mut file = file(count, |index| crowded_reference(first + index));
+    let [place, ground] =
+        [219 + 51..219 + 66, 219 + 107..219 + 111].map(|columns| file[columns].to_vec());
+    for record in file.chunks_mut(219).skip(1) {
+        record[51..66].copy_from_slice(&place);
+        record[107..111].copy_from_slice(&ground);
+    }
+    file
+}
+
 /// A file of stations whose 13X are those that `reference` gives for their indices.
 pub fn file(count: usize, reference: impl Fn(usize) -> [u8; 15]) -> Vec<u8> {
     let samples = stations();

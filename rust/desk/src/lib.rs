@@ -1,10 +1,12 @@
 //! A safe wrapper over the desk library, whose C boundary `include/desk.h` describes.
 //!
 //! A filing file is one header and n stations, 0 ≤ n ≤ 298, each a record of 219 bytes. Judging
-//! fills a sheet of 3n + 10 bytes; replacing puts a record in and mends the sheet; verifying tells
-//! whether a sheet that somebody else wrote is the one judged; showing finds a field; setting
+//! fills a sheet of 5n + 10 bytes; replacing puts a record in and mends the sheet; verifying tells
+//! whether a sheet that somebody else wrote is the one judged; replaying runs a day's saves again;
+//! showing finds a field; setting
 //! changes one value of a station; listing turns a station's record into a line of a semicolon
-//! list, or such a line into a record; a carriage's line and defaults make a record too. A refused
+//! list, or such a line into a record; a carriage's line and defaults make a record too; operators
+//! are counted, a row for each. A refused
 //! call changes no lent byte.
 //!
 //! ```
@@ -12,7 +14,7 @@
 //! let file = [b' '; 2 * desk::RECORD_LENGTH];
 //! let mut sheet = [0; desk::sheet_length(1)];
 //! desk::judge(&file, &mut sheet)?;
-//! assert_eq!(sheet, [3, 0, 0, 0, 13, 3, 1, 0, 1, 0, 1, b'2', b'B']);
+//! assert_eq!(sheet, [3, 0, 0, 0, 0, 0, 15, 5, 1, 0, 1, 0, 1, b'2', b'C']);
 //! # Ok::<(), desk::Refusal>(())
 //! ```
 
@@ -30,20 +32,15 @@ pub const MAX_STATIONS: usize = 298;
 /// The most bytes that a file has.
 pub const MAX_FILE_LENGTH: usize = (MAX_STATIONS + 1) * RECORD_LENGTH;
 
+/// The length of a save in a trace: three digits for the record's number, then the record.
+pub const SAVE_LENGTH: usize = 3 + RECORD_LENGTH;
+
 /// The most bytes that a line of a list has, its line feed included.
 pub const MAX_LINE_LENGTH: usize = RECORD_LENGTH + 30;
 
 /// The length of the sheet for a file of this many stations.
 pub const fn sheet_length(stations: usize) -> usize {
-    3 * stations + 10
-}
-
-/// The most stations that a sheet of the old form has room for.
-pub const OLD_MAX_STATIONS: usize = 250;
-
-/// The length of the old form's sheet for a file of this many stations.
-pub const fn old_sheet_length(stations: usize) -> usize {
-    2 * stations + 8
+    5 * stations + 10
 }
 
 /// The number of the rules that records are judged by, counted up by each change of a rule. Keep it
@@ -63,7 +60,7 @@ pub fn rules() -> u32 {
 /// let header = [b' '; 219];
 /// let mut sheet = [0; 10];
 /// desk::judge(&header, &mut sheet)?;
-/// assert_eq!(sheet, [0, 10, 3, 1, 0, 0, 0, 0, b'2', b'B']);
+/// assert_eq!(sheet, [0, 10, 5, 1, 0, 0, 0, 0, b'2', b'C']);
 /// assert_eq!(desk::judge(&[], &mut sheet), Err(desk::Refusal::FileNotRecords));
 /// # Ok::<(), desk::Refusal>(())
 /// ```
@@ -78,10 +75,10 @@ pub fn judge(file: &[u8], sheet: &mut [u8]) -> Result<(), Refusal> {
 /// let mut file = [b' '; 3 * 219];
 /// let mut sheet = [0; desk::sheet_length(2)];
 /// desk::judge(&file, &mut sheet)?;
-/// assert_eq!(sheet[..6], [3, 0, 0, 3, 0, 1]);
-/// // The second station shares the old 13X of the first, so both rows are written.
+/// assert_eq!(sheet[..10], [3, 0, 0, 0, 0, 3, 0, 1, 0, 0]);
+/// // The second station bears the old operator and site of the first, so both rows are written.
 /// assert_eq!(desk::replace(&mut file, &mut sheet, 1, &[b'1'; 219])?, 2);
-/// assert_eq!(sheet[..6], [1, 0, 0, 3, 0, 0]);
+/// assert_eq!(sheet[..10], [1, 0, 0, 0, 0, 3, 0, 0, 0, 0]);
 /// # Ok::<(), desk::Refusal>(())
 /// ```
 pub fn replace(
@@ -124,35 +121,92 @@ pub fn verify(file: &[u8], sheet: &[u8]) -> Result<Finding, Refusal> {
     answer(refusal, 0, finding)
 }
 
-/// Fills a sheet with what one of the old form says, which "2A" ends. Refusals: 1 to 4, 13.
-///
-/// ```
-/// let file = [b' '; 2 * 219];
-/// let old = [3, 0, 0, 10, 2, 1, 1, 1, b'2', b'A'];
-/// let mut sheet = [0; desk::sheet_length(1)];
-/// desk::turn_forward(&file, &old, &mut sheet)?;
-/// assert_eq!(sheet, [3, 0, 0, 0, 13, 3, 1, 0, 1, 0, 1, b'2', b'B']);
-/// assert_eq!(desk::turn_forward(&file, &old[1..], &mut sheet), Err(desk::Refusal::SheetLength));
-/// # Ok::<(), desk::Refusal>(())
-/// ```
-pub fn turn_forward(file: &[u8], old: &[u8], sheet: &mut [u8]) -> Result<(), Refusal> {
-    answer(raw::turn_forward(file, old, sheet), 0, ())
+/// A row of a page: an operator that has a station with code 0.
+#[derive(Clone, Copy, Debug, Default, PartialEq, Eq)]
+pub struct Operator {
+    /// The operator's code, two digits: places 6 and 7 of 13X.
+    pub code: [u8; 2],
+    /// How many stations with code 0 it has.
+    pub stations: u16,
+    /// How many of them have a transmit frequency.
+    pub transmitting: u16,
+    /// The lowest transmit frequency in hundredths of a hertz; none where there is none.
+    pub lowest: Option<u64>,
+    /// The highest.
+    pub highest: Option<u64>,
 }
 
-/// Fills a sheet of the old form with what a sheet says, of numbers the low byte, for up to 250
-/// stations. Refusals: 1 to 4, 13.
+/// The most operators that a file can have: each is two digits.
+pub const MAX_OPERATORS: usize = 100;
+
+/// The bytes of a row at the boundary.
+const OPERATOR_WIDTH: usize = 40;
+
+/// Puts a row for each operator of a file into the lent rows, ascending by code, and answers how
+/// many there are; rows past the last keep what they held. Refusals: 1, 2, 17.
 ///
 /// ```
-/// let file = [b' '; 2 * 219];
-/// let mut sheet = [0; desk::sheet_length(1)];
-/// desk::judge(&file, &mut sheet)?;
-/// let mut old = [0; desk::old_sheet_length(1)];
-/// desk::turn_back(&file, &sheet, &mut old)?;
-/// assert_eq!(old, [3, 0, 0, 10, 2, 1, 1, 1, b'2', b'A']);
+/// let mut rows = [desk::Operator::default(); desk::MAX_OPERATORS];
+/// assert_eq!(desk::operators(&[b' '; 2 * 219], &mut rows)?, 0); // its station breaks a rule
+/// let (header, station) = ([b' '; 219], include_bytes!("../station-s.txt"));
+/// let file = [&header[..], station].concat();
+/// assert_eq!(desk::operators(&file, &mut rows)?, 1);
+/// assert_eq!((rows[0].code, rows[0].stations), (*b"11", 1));
+/// assert_eq!(rows[0].lowest, Some(93_820_000_000)); // 938.2 MHz
+/// assert_eq!(desk::operators(&file, &mut []), Err(desk::Refusal::TooFewRows));
 /// # Ok::<(), desk::Refusal>(())
 /// ```
-pub fn turn_back(file: &[u8], sheet: &[u8], old: &mut [u8]) -> Result<(), Refusal> {
-    answer(raw::turn_back(file, sheet, old), 0, ())
+pub fn operators(file: &[u8], rows: &mut [Operator]) -> Result<usize, Refusal> {
+    let mut bytes = [0; MAX_OPERATORS * OPERATOR_WIDTH];
+    let room = rows.len().min(MAX_OPERATORS) * OPERATOR_WIDTH;
+    let (refusal, count) = raw::operators(file, &mut bytes[..room]);
+    for (row, columns) in rows.iter_mut().zip(bytes.chunks_exact(OPERATOR_WIDTH)).take(count) {
+        *row = Operator {
+            code: [columns[0], columns[1]],
+            stations: number(&columns[2..5]).unwrap_or(0) as u16,
+            transmitting: number(&columns[5..8]).unwrap_or(0) as u16,
+            lowest: number(&columns[8..24]),
+            highest: number(&columns[24..]),
+        };
+    }
+    answer(refusal, 0, count)
+}
+
+/// The number in columns of digits; none where they are spaces.
+fn number(columns: &[u8]) -> Option<u64> {
+    columns.iter().try_fold(0, |v, digit| Some(v * 10 + u64::from(digit.checked_sub(b'0')?)))
+}
+
+/// What a run of saves was: how many were accepted and refused, and which one stopped it.
+#[derive(Clone, Copy, Debug, Default, PartialEq, Eq)]
+pub struct Replayed {
+    /// The saves that were put in.
+    pub accepted: usize,
+    /// The saves whose number is above n.
+    pub refused: usize,
+    /// The save that stopped the run, counted from 1; it counts in neither.
+    pub stopped: Option<usize>,
+}
+
+/// Judges the morning's list into its sheet and runs a trace of saves on both, up to the first whose
+/// number is not three digits or that is cut short. A longer trace may be handed over in parts of
+/// whole saves. Refusals: 1, 2, 3.
+///
+/// ```
+/// let mut file = [b' '; 2 * desk::RECORD_LENGTH];
+/// let mut sheet = [0; desk::sheet_length(1)];
+/// let mut trace = [b"001".as_slice(), &[b'1'; 219], b"002", &[b'2'; 219]].concat();
+/// trace.extend(b"0");
+/// let day = desk::replay(&mut file, &mut sheet, &trace)?;
+/// assert_eq!(day, desk::Replayed { accepted: 1, refused: 1, stopped: Some(3) });
+/// assert_eq!(file[219..], [b'1'; 219]);
+/// assert_eq!(desk::verify(&file, &sheet)?, desk::Finding::Right);
+/// # Ok::<(), desk::Refusal>(())
+/// ```
+pub fn replay(file: &mut [u8], sheet: &mut [u8], trace: &[u8]) -> Result<Replayed, Refusal> {
+    let (refusal, accepted, refused, stopped) = raw::replay(file, sheet, trace);
+    let stopped = (stopped != 0).then_some(stopped);
+    answer(refusal, 0, Replayed { accepted, refused, stopped })
 }
 
 /// The piece of the file that holds a field of record `number`, 0 being the header.
@@ -182,6 +236,41 @@ pub fn show(file: &[u8], number: usize, field: usize) -> Result<&[u8], Refusal> 
 pub fn check_station(record: &[u8]) -> Result<(), Refusal> {
     let (refusal, code) = raw::station_code(record);
     answer(refusal, code, ())
+}
+
+/// What is wrong with the field that a station's code names.
+#[derive(Clone, Copy, Debug, PartialEq, Eq)]
+pub enum Kind {
+    /// A byte that the field admits at no place.
+    Byte,
+    /// A number, place or date outside its range, or a unit at odds with its frequency.
+    Range,
+    /// What cannot be read.
+    Shape,
+    /// A rule between fields, codes 31 to 39.
+    Between,
+}
+
+/// The kind of the first rule that a station's record breaks, and none where it breaks no rule.
+/// Refusal: 6.
+///
+/// ```
+/// # let mut station = *include_bytes!(concat!(env!("CARGO_MANIFEST_DIR"), "/station-s.txt"));
+/// assert_eq!(desk::station_kind(&station), Ok(None));
+/// station[91..96].copy_from_slice(b"360.0");
+/// assert_eq!(desk::station_kind(&station), Ok(Some((17, desk::Kind::Range))));
+/// assert_eq!(desk::station_kind(&[]), Err(desk::Refusal::RecordLength));
+/// ```
+pub fn station_kind(record: &[u8]) -> Result<Option<(u8, Kind)>, Refusal> {
+    let (refusal, code, kind) = raw::station_kind(record);
+    let kind = match kind {
+        0 => return answer(refusal, code, None),
+        1 => Kind::Byte,
+        2 => Kind::Range,
+        3 => Kind::Shape,
+        _ => Kind::Between,
+    };
+    Ok(Some((code, kind)))
 }
 
 /// Whether a record is a header that breaks none of the rules 1 to 14. Refusals: 6, 9.

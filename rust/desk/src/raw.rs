@@ -19,9 +19,6 @@ type Check = unsafe extern "C" fn(*const u8, usize, *mut u8) -> u8;
 /// A call that reads from one slice and writes into another.
 type Rewrite = unsafe extern "C" fn(*const u8, usize, *mut u8, usize, *mut u8) -> u8;
 
-/// A call that turns a list's sheet into one of another form.
-type Turn = unsafe extern "C" fn(*const u8, usize, *const u8, usize, *mut u8, usize) -> u8;
-
 /// A call that sets a value that may be blank.
 type Setter = unsafe extern "C" fn(*mut u8, usize, u8, i64, *mut u8) -> u8;
 
@@ -45,6 +42,24 @@ extern "C" {
         found: *mut u8,
         offset: *mut usize,
     ) -> u8;
+    fn desk_replay(
+        file: *mut u8,
+        file_length: usize,
+        sheet: *mut u8,
+        sheet_length: usize,
+        trace: *const u8,
+        trace_length: usize,
+        accepted: *mut usize,
+        refused: *mut usize,
+        stopped: *mut usize,
+    ) -> u8;
+    fn desk_operators(
+        file: *const u8,
+        file_length: usize,
+        out: *mut u8,
+        out_length: usize,
+        count: *mut usize,
+    ) -> u8;
     fn desk_show(
         file: *const u8,
         file_length: usize,
@@ -53,23 +68,13 @@ extern "C" {
         offset: *mut usize,
         length: *mut usize,
     ) -> u8;
-    fn desk_turn_forward(
-        file: *const u8,
-        file_length: usize,
-        given: *const u8,
-        given_length: usize,
-        lent: *mut u8,
-        lent_length: usize,
-    ) -> u8;
-    fn desk_turn_back(
-        file: *const u8,
-        file_length: usize,
-        given: *const u8,
-        given_length: usize,
-        lent: *mut u8,
-        lent_length: usize,
-    ) -> u8;
     fn desk_station_code(record: *const u8, record_length: usize, code: *mut u8) -> u8;
+    fn desk_station_kind(
+        record: *const u8,
+        record_length: usize,
+        code: *mut u8,
+        kind: *mut u8,
+    ) -> u8;
     fn desk_header_code(record: *const u8, record_length: usize, code: *mut u8) -> u8;
     fn desk_respell_station(
         record: *const u8,
@@ -199,14 +204,36 @@ pub fn verify(file: &[u8], sheet: &[u8]) -> (u8, u8, usize) {
     (refusal, found, offset)
 }
 
-/// `desk_turn_forward`: the refusal.
-pub fn turn_forward(file: &[u8], given: &[u8], lent: &mut [u8]) -> u8 {
-    turn(desk_turn_forward, file, given, lent)
+/// `desk_operators`: the refusal and the number of rows.
+pub fn operators(file: &[u8], out: &mut [u8]) -> (u8, usize) {
+    let mut count = NO_COUNT;
+    // SAFETY: both pointers are good for the lengths of their slices, which do not overlap; the
+    // answer is a place of our own.
+    let refusal = unsafe {
+        desk_operators(file.as_ptr(), file.len(), out.as_mut_ptr(), out.len(), &mut count)
+    };
+    (refusal, count)
 }
 
-/// `desk_turn_back`: the refusal.
-pub fn turn_back(file: &[u8], given: &[u8], lent: &mut [u8]) -> u8 {
-    turn(desk_turn_back, file, given, lent)
+/// `desk_replay`: the refusal, the saves accepted and refused, and the one that stopped the run.
+pub fn replay(file: &mut [u8], sheet: &mut [u8], trace: &[u8]) -> (u8, usize, usize, usize) {
+    let (mut accepted, mut refused, mut stopped) = (NO_COUNT, NO_COUNT, NO_COUNT);
+    // SAFETY: the pointers are good for the lengths of their slices; what is written to, `file`,
+    // `sheet` and the three numbers, is borrowed alone.
+    let refusal = unsafe {
+        desk_replay(
+            file.as_mut_ptr(),
+            file.len(),
+            sheet.as_mut_ptr(),
+            sheet.len(),
+            trace.as_ptr(),
+            trace.len(),
+            &mut accepted,
+            &mut refused,
+            &mut stopped,
+        )
+    };
+    (refusal, accepted, refused, stopped)
 }
 
 /// `desk_show`: the refusal, the field's offset and its length.
@@ -221,6 +248,14 @@ pub fn show(file: &[u8], number: usize, field: usize) -> (u8, usize, usize) {
 /// `desk_station_code`: the refusal and the code.
 pub fn station_code(record: &[u8]) -> (u8, u8) {
     check(desk_station_code, record)
+}
+
+/// `desk_station_kind`: the refusal, the code and the number of its kind.
+pub fn station_kind(record: &[u8]) -> (u8, u8, u8) {
+    let (mut code, mut kind) = (NO_CODE, NO_CODE);
+    // SAFETY: the pointer is good for the length of its slice; the answers are places of our own.
+    let refusal = unsafe { desk_station_kind(record.as_ptr(), record.len(), &mut code, &mut kind) };
+    (refusal, code, kind)
 }
 
 /// `desk_header_code`: the refusal and the code.
@@ -306,13 +341,6 @@ pub fn long_field(line: &[u8]) -> (u8, usize, usize, usize) {
     let refusal =
         unsafe { desk_long_field(line.as_ptr(), line.len(), &mut number, &mut length, &mut most) };
     (refusal, number, length, most)
-}
-
-fn turn(call: Turn, file: &[u8], given: &[u8], lent: &mut [u8]) -> u8 {
-    // SAFETY: the pointers are good for the lengths of their slices; `lent` is borrowed alone.
-    unsafe {
-        call(file.as_ptr(), file.len(), given.as_ptr(), given.len(), lent.as_mut_ptr(), lent.len())
-    }
 }
 
 /// `desk_carriage`: the refusal and the code.

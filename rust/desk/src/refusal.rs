@@ -9,9 +9,9 @@ pub enum Refusal {
     FileTooLong,
     /// 2: the file's length is zero or no multiple of 219.
     FileNotRecords,
-    /// 3: the lent sheet is not exactly 3n + 10 bytes.
+    /// 3: the lent sheet is not exactly 5n + 10 bytes.
     SheetLength,
-    /// 4: the sheet's trailer lacks "2B", width 3 or distance 3n + 10.
+    /// 4: the sheet's trailer lacks "2C", width 5 or distance 5n + 10.
     SheetTrailer,
     /// 5: the record number is above n.
     NoSuchRecord,
@@ -33,14 +33,14 @@ pub enum Refusal {
     FieldTooLong,
     /// 12: the lent buffer is shorter than the line.
     BufferTooShort,
-    /// 13: a sheet of the old form for more than 250 stations.
-    OldFormTooMany,
     /// 14: the vehicle number has not twelve digits.
     NotTwelveDigits,
     /// 15: the last digit of the vehicle number is wrong.
     LastDigitWrong,
     /// 16: the defaults are not a station of class ML that breaks no rule.
     NotMobileDefaults,
+    /// 17: the lent list has fewer rows than operators found.
+    TooFewRows,
 }
 
 impl Refusal {
@@ -48,7 +48,7 @@ impl Refusal {
     ///
     /// # Panics
     ///
-    /// With a number above 16, which the library never gives.
+    /// With 13 or a number above 17, which the library never gives.
     pub(crate) fn from_numbers(number: u8, code: u8) -> Option<Refusal> {
         let refusal = match number {
             0 => return None,
@@ -64,10 +64,10 @@ impl Refusal {
             10 => Refusal::NotALine,
             11 => Refusal::FieldTooLong,
             12 => Refusal::BufferTooShort,
-            13 => Refusal::OldFormTooMany,
             14 => Refusal::NotTwelveDigits,
             15 => Refusal::LastDigitWrong,
             16 => Refusal::NotMobileDefaults,
+            17 => Refusal::TooFewRows,
             _ => panic!("the library has no refusal {number}"),
         };
         Some(refusal)
@@ -93,10 +93,10 @@ impl Refusal {
             Refusal::NotALine => 10,
             Refusal::FieldTooLong => 11,
             Refusal::BufferTooShort => 12,
-            Refusal::OldFormTooMany => 13,
             Refusal::NotTwelveDigits => 14,
             Refusal::LastDigitWrong => 15,
             Refusal::NotMobileDefaults => 16,
+            Refusal::TooFewRows => 17,
         }
     }
 }
@@ -116,10 +116,10 @@ impl fmt::Display for Refusal {
             Refusal::NotALine => write!(f, "the line has not its semicolons and one line feed"),
             Refusal::FieldTooLong => write!(f, "a field of the line is longer than its columns"),
             Refusal::BufferTooShort => write!(f, "the buffer is shorter than the line"),
-            Refusal::OldFormTooMany => write!(f, "the old form has room for 250 stations"),
             Refusal::NotTwelveDigits => write!(f, "the vehicle number has not twelve digits"),
             Refusal::LastDigitWrong => write!(f, "the vehicle number's last digit is wrong"),
             Refusal::NotMobileDefaults => write!(f, "the defaults are not an accepted ML station"),
+            Refusal::TooFewRows => write!(f, "the list has fewer rows than operators were found"),
         }
     }
 }
@@ -133,7 +133,7 @@ mod tests {
     #[test]
     fn numbers_are_kept() {
         assert_eq!(Refusal::from_numbers(0, 0), None);
-        for number in 1..=16 {
+        for number in (1..=12).chain(14..=16) {
             assert_eq!(Refusal::from_numbers(number, 5).map(Refusal::number), Some(number));
         }
         assert_eq!(Refusal::from_numbers(9, 5), Some(Refusal::RuleBroken { code: 5 }));

@@ -31,10 +31,10 @@ fn standing_records_change_no_byte_of_a_judged_sheet() {
 fn a_sheet_judged_from_another_list_is_left_out() {
     // Of a list in which the two references differ: both rows are good.
     let mut foreign = judged();
-    foreign[..6].fill(0);
+    foreign[..10].fill(0);
     // The record that stands is put in, and its row is written for this list: a byte changes, the twin.
     let (file, sheet) = after(&foreign, &[2]);
     assert_eq!(file, FILING);
-    assert_eq!(sheet[..6], [0, 0, 0, 0, 0, 1]);
-    assert_ne!(sheet[..6], foreign[..6]);
+    assert_eq!(sheet[..10], [0, 0, 0, 0, 0, 0, 0, 1, 0, 0]);
+    assert_ne!(sheet[..10], foreign[..10]);
 }

@@ -29,7 +29,7 @@ fn a_mended_sheet_is_right_and_the_one_before_it_wrong() {
     desk::replace(&mut file, &mut sheet, 257, &record).expect("there is a station 257");
     assert_eq!(desk::verify(&file, &sheet), Ok(Finding::Right));
     // Its code is no longer 0.
-    assert_eq!(desk::verify(&file, &before), Ok(Finding::WrongAt { offset: 3 * 256 }));
+    assert_eq!(desk::verify(&file, &before), Ok(Finding::WrongAt { offset: 5 * 256 }));
 }
 
 #[test]

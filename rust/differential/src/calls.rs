@@ -13,9 +13,6 @@ pub type Check = fn(&[u8]) -> (u8, u8);
 /// A call that reads from one slice and writes into another.
 pub type Rewrite = fn(&[u8], &mut [u8]) -> (u8, u8);
 
-/// A call that turns a sheet.
-type Turn = fn(&[u8], &[u8], &mut [u8]) -> u8;
-
 /// A call that sets one value of a record.
 pub type Setter = fn(&mut [u8], u8, i64) -> (u8, u8);
 
@@ -74,6 +71,16 @@ impl Comparison {
         agree(call.name, answer, (call.peer)(record), &[record]);
         untouched(call.name, &lent, record);
         self.tally.answer(call.name, answer);
+    }
+
+    /// Compares the kind that comes with a record's code; its code is that of `desk_station_code`.
+    pub fn kind(&mut self, record: &[u8]) {
+        let lent = Lent::new(record);
+        let answer = raw::station_kind(lent.part());
+        agree("station_kind", answer, oracle::station_kind(record), &[record]);
+        agree("kind and code", (answer.0, answer.1), raw::station_code(lent.part()), &[record]);
+        untouched("station_kind", &lent, record);
+        self.tally.kind(answer);
     }
 
     /// Compares a call that reads `from` and writes into a buffer that holds `to`; answers what the
@@ -204,37 +211,47 @@ impl Comparison {
         (answer.1, answer.2)
     }
 
-    /// Compares turning forward into a sheet that holds `lent`; answers what it holds then.
-    pub fn turn_forward(&mut self, file: &[u8], given: &[u8], lent: &[u8]) -> Vec<u8> {
-        self.turn("turn_forward", raw::turn_forward, oracle::turn_forward, [file, given, lent])
-    }
-
-    /// Compares turning back in the same way.
-    pub fn turn_back(&mut self, file: &[u8], given: &[u8], lent: &[u8]) -> Vec<u8> {
-        self.turn("turn_back", raw::turn_back, oracle::turn_back, [file, given, lent])
-    }
-
-    fn turn(
-        &mut self,
-        name: &'static str,
-        library: Turn,
-        peer: Turn,
-        inputs: [&[u8]; 3],
-    ) -> Vec<u8> {
-        let [file, given, lent] = inputs;
-        let (our_file, our_given) = (Lent::new(file), Lent::new(given));
+    /// Compares the page of operators, into bytes that hold `lent`; answers the refusal, how many
+    /// rows there are, and what the bytes hold then.
+    pub fn operators(&mut self, file: &[u8], lent: &[u8]) -> (u8, usize, Vec<u8>) {
+        let our_file = Lent::new(file);
         let (mut ours, mut theirs) = (Lent::new(lent), Lent::new(lent));
-        let refusal = library(our_file.part(), our_given.part(), ours.part_mut());
-        let inputs = [given, lent, file];
-        agree(name, refusal, peer(file, given, theirs.part_mut()), &inputs);
-        agree_bytes(name, &ours, &theirs, &inputs);
-        untouched(name, &our_file, file);
-        untouched(name, &our_given, given);
-        if refusal != 0 {
-            untouched(name, &ours, lent);
+        let answer = raw::operators(our_file.part(), ours.part_mut());
+        let expected = oracle::operators(file, theirs.part_mut());
+        agree("operators", answer, expected, &[lent, file]);
+        agree_bytes("operators", &ours, &theirs, &[lent, file]);
+        untouched("operators", &our_file, file);
+        if answer.0 != 0 {
+            untouched("operators", &ours, lent);
         }
-        self.tally.refusal(name, refusal);
-        ours.part().to_vec()
+        self.tally.refusal("operators", answer.0);
+        (answer.0, answer.1, ours.part().to_vec())
+    }
+
+    /// Compares running a trace of saves; answers the saves accepted and refused and the one that
+    /// stopped the run.
+    pub fn replay(&mut self, file: &mut [u8], sheet: &mut [u8], trace: &[u8]) -> [usize; 3] {
+        let lent = Lent::new(trace);
+        let (mut our_file, mut their_file) = (Lent::new(file), Lent::new(file));
+        let (mut our_sheet, mut their_sheet) = (Lent::new(sheet), Lent::new(sheet));
+        let answer = raw::replay(our_file.part_mut(), our_sheet.part_mut(), lent.part());
+        let expected = oracle::replay(their_file.part_mut(), their_sheet.part_mut(), trace);
+        let inputs: [&[u8]; 3] = [trace, sheet, file];
+        agree("replay", answer, expected, &inputs);
+        agree_bytes("replay (sheet)", &our_sheet, &their_sheet, &inputs);
+        agree_bytes("replay (file)", &our_file, &their_file, &inputs);
+        untouched("replay", &lent, trace);
+        self.tally.refusal("replay", answer.0);
+        let (refusal, accepted, refused, stopped) = answer;
+        if refusal == 0 {
+            self.tally.day(accepted, refused, stopped);
+        } else {
+            untouched("replay", &our_file, file);
+            untouched("replay", &our_sheet, sheet);
+        }
+        file.copy_from_slice(our_file.part());
+        sheet.copy_from_slice(our_sheet.part());
+        [accepted, refused, stopped]
     }
 
     /// Compares showing.

@@ -55,6 +55,7 @@ fn station(comparison: &mut Comparison, random: &mut Random, target: usize) {
     let length = records::some_length(random);
     let bytes = records::resized(random, &record, length);
     comparison.check(&STATION_CODE, &bytes);
+    comparison.kind(&bytes);
     let out = buffer(random);
     comparison.rewrite(&RESPELL_STATION, &bytes, &out);
     if random.one_in(16) {

@@ -371,8 +371,19 @@ fn late_date(random: &mut Random) -> Vec<u8> {
     format!("{:02}{month:02}{year}", random.within(28, 32)).into_bytes()
 }
 
+/// A text in which zeros that lead one of its numbers, each of so many columns from one on, are spaces
+/// now and then: the same value, spelled otherwise.
+pub fn loosened(random: &mut Random, text: &[u8], numbers: &[[usize; 2]]) -> Vec<u8> {
+    let mut loose = text.to_vec();
+    for &[first, length] in numbers.iter().filter(|_| random.one_in(2)) {
+        let zeros = text[first..][..length - 1].iter().take_while(|byte| **byte == b'0').count();
+        loose[first..][..zeros].fill(b' ');
+    }
+    loose
+}
+
 /// 4C: each number behind zeros or spaces.
-fn place(random: &mut Random) -> Vec<u8> {
+pub fn place(random: &mut Random) -> Vec<u8> {
     let longitude = arc(random, 3, 180, b"EW");
     [longitude, arc(random, 2, 90, b"NS")].concat()
 }

@@ -2,8 +2,9 @@
 //!
 //! Input is made by a generator with a fixed seed: fields in good spellings and near misses,
 //! records that break each rule in turn, damaged bytes, wrong lengths, lines of semicolon lists
-//! and of carriages, and runs of replacements in files of up to 298 stations,
-//! whose sheets are turned to the old form and back. Each call is made of both on equal
+//! and of carriages, a field for each kind of each code, runs of replacements in files of up to 298
+//! stations at few sites, so that twins and clashes are common, and files whose operators are few or
+//! many. Each call is made of both on equal
 //! bytes; refusals, codes, counts and every lent byte must be equal after it, and refused calls
 //! must leave all bytes.
 
@@ -13,7 +14,9 @@ mod calls;
 mod carriages;
 mod cases;
 mod fields;
+mod kinds;
 mod lines;
+mod operators;
 mod oracle;
 mod random;
 mod records;
@@ -49,6 +52,7 @@ pub fn run(count: usize) -> Tally {
     let mut comparison = calls::Comparison::default();
     let mut random = random::Random::new(SEED);
     sweeps::all(&mut comparison, &mut random);
+    kinds::sweep(&mut comparison);
     for index in 0..count {
         cases::case(&mut comparison, &mut random, index);
         lines::case(&mut comparison, &mut random, index);
@@ -64,6 +68,8 @@ pub fn run(count: usize) -> Tally {
             pool = runs::Pool::new(&mut random);
         }
         runs::run(&mut comparison, &mut random, &pool, index);
+        operators::case(&mut comparison, &mut random, &pool, index);
     }
+    operators::ends(&mut comparison, &mut random);
     comparison.tally
 }

@@ -1,6 +1,6 @@
 //! The boundary's calls made of the peer, with the numbers that `desk::raw` gives.
 
-use peer::{Header, Metres, Refusal, Station, Tenths, RECORD_LENGTH};
+use peer::{Header, Kind, Metres, Operator, Refusal, Station, Tenths, RECORD_LENGTH};
 
 /// `desk_judge`.
 pub fn judge(file: &[u8], sheet: &mut [u8]) -> u8 {
@@ -24,14 +24,28 @@ pub fn verify(file: &[u8], sheet: &[u8]) -> (u8, u8, usize) {
     }
 }
 
-/// `desk_turn_forward`.
-pub fn turn_forward(file: &[u8], given: &[u8], lent: &mut [u8]) -> u8 {
-    numbers(&peer::turn_forward(file, given, lent)).0
+/// `desk_operators`: rows of forty bytes in fixed columns.
+pub fn operators(file: &[u8], out: &mut [u8]) -> (u8, usize) {
+    let mut rows = vec![Operator::default(); out.len() / 40];
+    let answer = peer::operators(file, &mut rows);
+    let refusal = numbers(&answer).0;
+    let count = answer.unwrap_or(0);
+    for (row, bytes) in rows[..count].iter().zip(out.chunks_exact_mut(40)) {
+        let code = std::str::from_utf8(&row.code).expect("two digits");
+        let sent = |v: Option<u64>| v.map_or(" ".repeat(16), |v| format!("{v:016}"));
+        let (lowest, highest) = (sent(row.lowest), sent(row.highest));
+        let text = format!("{code}{:03}{:03}{lowest}{highest}", row.stations, row.transmitting);
+        bytes.copy_from_slice(text.as_bytes());
+    }
+    (refusal, count)
 }
 
-/// `desk_turn_back`.
-pub fn turn_back(file: &[u8], given: &[u8], lent: &mut [u8]) -> u8 {
-    numbers(&peer::turn_back(file, given, lent)).0
+/// `desk_replay`.
+pub fn replay(file: &mut [u8], sheet: &mut [u8], trace: &[u8]) -> (u8, usize, usize, usize) {
+    let answer = peer::replay(file, sheet, trace);
+    let refusal = numbers(&answer).0;
+    let day = answer.unwrap_or_default();
+    (refusal, day.accepted, day.refused, day.stopped)
 }
 
 /// `desk_show`.
@@ -45,6 +59,19 @@ pub fn show(file: &[u8], number: usize, field: usize) -> (u8, usize, usize) {
 /// `desk_station_code`.
 pub fn station_code(record: &[u8]) -> (u8, u8) {
     numbers(&Station::read(record))
+}
+
+/// `desk_station_kind`.
+pub fn station_kind(record: &[u8]) -> (u8, u8, u8) {
+    let (refusal, code) = station_code(record);
+    let kind = match record.try_into().map(peer::station_kind) {
+        Ok((_, Some(Kind::Byte))) => 1,
+        Ok((_, Some(Kind::Range))) => 2,
+        Ok((_, Some(Kind::Shape))) => 3,
+        Ok((_, Some(Kind::Between))) => 4,
+        Ok((_, None)) | Err(_) => 0,
+    };
+    (refusal, code, kind)
 }
 
 /// `desk_header_code`.

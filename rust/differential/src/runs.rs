@@ -1,8 +1,8 @@
 //! Runs of replacements in one file, with its own sheet or that of another.
 
-use peer::{
-    old_sheet_length, sheet_length, Record, MAX_FILE_LENGTH, OLD_MAX_STATIONS, STATION_FIELDS,
-};
+use peer::{sheet_length, Record, MAX_FILE_LENGTH, STATION_FIELDS};
+
+use desk::SAVE_LENGTH;
 
 use crate::calls::Comparison;
 use crate::fields;
@@ -30,7 +30,7 @@ impl Pool {
     }
 
     /// A station, mostly with one of the 13X given.
-    fn station(&self, random: &mut Random, references: &[Vec<u8>]) -> Record {
+    pub fn referenced(&self, random: &mut Random, references: &[Vec<u8>]) -> Record {
         let mut record = random.pick(&self.stations);
         if !random.one_in(16) {
             let reference = &references[random.below(references.len())];
@@ -38,6 +38,35 @@ impl Pool {
         }
         record
     }
+
+    /// Such a station, often with one of the places and heights.
+    fn station(&self, random: &mut Random, drawn: &Drawn) -> Record {
+        let mut record = self.referenced(random, &drawn.references);
+        if !random.one_in(4) {
+            let (place, height) = &drawn.stands[random.below(drawn.stands.len())];
+            records::put(
+                &mut record,
+                &STATION_FIELDS,
+                11,
+                &fields::loosened(random, place, &PLACE_NUMBERS),
+            );
+            records::put(
+                &mut record,
+                &STATION_FIELDS,
+                21,
+                &fields::loosened(random, height, &[[0, 4]]),
+            );
+        }
+        record
+    }
+}
+
+/// What the stations of a run are drawn from.
+struct Drawn {
+    /// The 13X.
+    references: Vec<Vec<u8>>,
+    /// 4C and 9Y: few, so that stations of one site stand together as often as apart.
+    stands: Vec<(Vec<u8>, Vec<u8>)>,
 }
 
 /// A record's number, and the record that is to stand there.
@@ -48,7 +77,7 @@ struct Run<'a> {
     comparison: &'a mut Comparison,
     random: &'a mut Random,
     pool: &'a Pool,
-    references: Vec<Vec<u8>>,
+    drawn: Drawn,
     stations: usize,
     file: Vec<u8>,
     sheet: Vec<u8>,
@@ -57,12 +86,12 @@ struct Run<'a> {
 /// Makes one run and compares after every call; what is wrong with the headers takes turns.
 pub fn run(comparison: &mut Comparison, random: &mut Random, pool: &Pool, index: usize) {
     let stations = random.pick(&SIZES);
-    let references = references(random);
+    let drawn = Drawn { references: references(random), stands: stands(random) };
     let mut run = Run {
         comparison,
         random,
         pool,
-        references,
+        drawn,
         stations,
         file: Vec::new(),
         sheet: vec![0; sheet_length(stations)],
@@ -91,8 +120,76 @@ impl Run<'_> {
             self.either_order();
         }
         self.verify(own_sheet);
-        self.turn();
+        self.replay();
         self.show();
+    }
+
+    /// A day's saves run again from the file: whole, cut off at every byte of one save or at any
+    /// byte, with a byte changed; in two parts they end the same; then with lengths that are wrong.
+    fn replay(&mut self) {
+        let saves = self.random.pick(&[0, 1, 2, 5, 12]);
+        let trace: Vec<u8> = (0..saves).flat_map(|_| self.save()).collect();
+        let (left, told) = self.day(&self.file.clone(), &trace);
+        let cut = SAVE_LENGTH * self.random.below(saves + 1);
+        let (middle, first) = self.day(&self.file.clone(), &trace[..cut]);
+        let (end, second) = self.day(&middle, &trace[cut..]);
+        if first[2] == 0 {
+            assert_eq!(end, left, "a day stopped and gone on with ends in another list");
+            let stopped = if second[2] == 0 { 0 } else { cut / SAVE_LENGTH + second[2] };
+            assert_eq!(
+                [first[0] + second[0], first[1] + second[1], stopped],
+                told,
+                "counts add up"
+            );
+        }
+        if self.stations <= 2 && saves > 0 {
+            let whole = SAVE_LENGTH * self.random.below(saves);
+            for end in whole..=whole + SAVE_LENGTH {
+                self.day(&self.file.clone(), &trace[..end]);
+            }
+        }
+        if saves > 0 {
+            let mut damaged = trace.clone();
+            let place =
+                SAVE_LENGTH * self.random.below(saves) + self.random.pick(&[0, 1, 2, 3, 221]);
+            damaged[place] = self.random.pick(b" /:0A\0\xff");
+            let end = trace.len() - self.random.below(SAVE_LENGTH);
+            self.day(&self.file.clone(), &damaged);
+            self.day(&self.file.clone(), &damaged[..end]);
+        }
+        let (mut file, mut sheet) = (self.file.clone(), self.sheet.clone());
+        match self.random.below(3) {
+            0 => file.resize(MAX_FILE_LENGTH + 1, b' '),
+            1 => file.truncate(self.file.len() - 1),
+            _ => sheet.push(0),
+        }
+        let told = self.comparison.replay(&mut file, &mut sheet, &trace);
+        assert_eq!(told, [0; 3], "a refused day has counts");
+    }
+
+    /// A save: mostly of a number that there is, or one above the last.
+    fn save(&mut self) -> Vec<u8> {
+        let number = match self.random.below(8) {
+            0 => 0,
+            1 => self.stations + 1 + self.random.below(3),
+            2 => 999,
+            _ => self.random.below(self.stations + 1),
+        };
+        let record = match number {
+            0 => self.any_header(),
+            _ => self.pool.station(self.random, &self.drawn),
+        };
+        [format!("{number:03}").as_bytes(), &record].concat()
+    }
+
+    /// The list that a trace leaves, and what it tells; the sheet left is the one judged from it.
+    fn day(&mut self, morning: &[u8], trace: &[u8]) -> (Vec<u8>, [usize; 3]) {
+        let mut file = morning.to_vec();
+        let mut sheet = vec![self.random.byte(); self.sheet.len()];
+        let told = self.comparison.replay(&mut file, &mut sheet, trace);
+        let fresh = self.comparison.judge(&file, vec![0; sheet.len()]);
+        assert_eq!(sheet, fresh, "the sheet left is not the one judged from the list left");
+        (file, told)
     }
 
     /// A sheet that was judged and mended is right, and every other byte in the judged sheet is
@@ -130,44 +227,6 @@ impl Run<'_> {
         self.comparison.verify(&file, &long);
     }
 
-    /// Turns the sheet to the old form and back, then with something wrong; what is turned there
-    /// and back is the sheet again where the old form has room for it.
-    fn turn(&mut self) {
-        let n = self.stations;
-        let small = vec![self.random.byte(); old_sheet_length(n)];
-        let old = self.comparison.turn_back(&self.file, &self.sheet, &small);
-        let (spaces, mut given) = (vec![self.random.byte(); self.sheet.len()], old.clone());
-        let new = self.comparison.turn_forward(&self.file, &old, &spaces);
-        if n <= OLD_MAX_STATIONS {
-            let again = self.comparison.turn_back(&self.file, &new, &small);
-            assert_eq!(again, old, "a sheet turned there and back is another");
-        }
-        if n <= OLD_MAX_STATIONS && self.sheet == self.judged() {
-            assert_eq!(new, self.sheet, "a sheet turned back and there is another");
-        }
-        // An old sheet of any n, by hand, since turning back gives none above 250.
-        given[2 * n..].copy_from_slice(&[0, 0, 2, 0, 1, 1, b'2', b'A']);
-        given[2 * n..][..2].copy_from_slice(&(old_sheet_length(n) as u16).to_be_bytes());
-        self.comparison.turn_forward(&self.file, &given, &spaces);
-        for _ in 0..8 {
-            let mut sheets = [self.sheet.clone(), given.clone(), spaces.clone(), small.clone()];
-            let which = self.random.below(4);
-            let place = sheets[which].len() - self.random.pick(&[1, 2, 8]);
-            match self.random.below(3) {
-                0 => sheets[which].truncate(place),
-                1 => sheets[which].push(0),
-                _ => sheets[which][place] ^= self.random.pick(&[1, 3, 128]),
-            }
-            let mut file = self.file.clone();
-            if self.random.one_in(4) {
-                let length = file.len();
-                file.resize(self.random.pick(&[0, length - 1, MAX_FILE_LENGTH + 1]), b' ');
-            }
-            self.comparison.turn_back(&file, &sheets[0], &sheets[3]);
-            self.comparison.turn_forward(&file, &sheets[1], &sheets[2]);
-        }
-    }
-
     /// The sheet judged from the file, by the peer.
     fn judged(&self) -> Vec<u8> {
         let mut sheet = vec![0; self.sheet.len()];
@@ -181,7 +240,7 @@ impl Run<'_> {
         let other = self.file_with(header);
         let mut sheet = self.comparison.judge(&other, self.sheet.clone());
         if self.random.one_in(2) {
-            sheet[..3 * self.stations].fill_with(|| self.random.byte());
+            sheet[..5 * self.stations].fill_with(|| self.random.byte());
         }
         sheet
     }
@@ -189,9 +248,26 @@ impl Run<'_> {
     fn file_with(&mut self, header: Record) -> Vec<u8> {
         let mut file = header.to_vec();
         for _ in 0..self.stations {
-            file.extend(self.pool.station(self.random, &self.references));
+            file.extend(self.pool.station(self.random, &self.drawn));
+        }
+        if self.stations > 257 && self.random.one_in(2) {
+            self.put_far_clash(&mut file);
         }
         file
+    }
+
+    /// Station 257 and the last one at a site that no other has, and at two heights.
+    fn put_far_clash(&mut self, file: &mut [u8]) {
+        let place = fields::place(self.random);
+        for (number, reference, height) in
+            [(257, b"AUT2399ZZ99Z001", b"0030"), (self.stations, b"AUT2399ZZ99Z002", b"0031")]
+        {
+            let mut record = records::station(self.random, 0);
+            records::put(&mut record, &STATION_FIELDS, 11, &place);
+            records::put(&mut record, &STATION_FIELDS, 21, height);
+            records::put(&mut record, &STATION_FIELDS, 30, reference);
+            file[219 * number..][..219].copy_from_slice(&record);
+        }
     }
 
     /// A header that mostly has this code in its file.
@@ -223,7 +299,7 @@ impl Run<'_> {
         let mut record = if number == 0 {
             self.any_header()
         } else {
-            self.pool.station(self.random, &self.references)
+            self.pool.station(self.random, &self.drawn)
         };
         if self.random.one_in(6) {
             let old = &self.file[219 * number..][..219];
@@ -262,7 +338,7 @@ impl Run<'_> {
         let mut record = if number == 0 {
             self.any_header().to_vec()
         } else {
-            self.pool.station(self.random, &self.references).to_vec()
+            self.pool.station(self.random, &self.drawn).to_vec()
         };
         if self.random.one_in(8) {
             let length = self.random.pick(&OTHER_LENGTHS);
@@ -286,7 +362,7 @@ impl Run<'_> {
         let wrong = |refusal: usize| faults >> (refusal - 1) & 1 == 1;
         let (mut file, mut sheet) = (self.file.clone(), self.sheet.clone());
         let mut number = self.random.below(self.stations + 1);
-        let mut record = self.pool.station(self.random, &self.references).to_vec();
+        let mut record = self.pool.station(self.random, &self.drawn).to_vec();
         if wrong(1) && self.random.one_in(4) {
             let long = [1, 219, 220, 5_000];
             file.resize(MAX_FILE_LENGTH + self.random.pick(&long), b' ');
@@ -360,7 +436,7 @@ fn references(random: &mut Random) -> Vec<Vec<u8>> {
             1 => fields::bad_station(random, 30),
             _ => {
                 let mut near = first.clone();
-                let place = random.pick(&[0, 7, 9, 11, 12, 13, 14]);
+                let place = random.pick(&[0, 5, 7, 10, 11, 12, 13, 14]);
                 near[place] = random.pick(b"0123456789");
                 near
             }
@@ -369,3 +445,37 @@ fn references(random: &mut Random) -> Vec<Vec<u8>> {
     }
     references
 }
+
+/// The places and heights of a run: one or some, zero and 180 degrees with either letter among them.
+fn stands(random: &mut Random) -> Vec<(Vec<u8>, Vec<u8>)> {
+    let first = (fields::place(random), b"0030".to_vec());
+    let size = random.pick(&[1, 2, 2, 3, 6]);
+    let mut stands = vec![first.clone()];
+    while stands.len() < size {
+        let stand = match random.below(4) {
+            0 => (first.0.clone(), random.pick(&[b"0031", b"0000", b"1030"]).to_vec()),
+            1 => (random.pick(&TELLING_PLACES).to_vec(), b"0030".to_vec()),
+            2 => (fields::place(random), b"0030".to_vec()),
+            _ => {
+                let mut near = first.0.clone();
+                let place = random.pick(&[5, 7, 14]);
+                near[place] = random.pick(b"0123456789");
+                (near, first.1.clone())
+            }
+        };
+        stands.push(stand);
+    }
+    stands
+}
+
+/// Where the six numbers of 4C stand: first place, from 0, and length.
+const PLACE_NUMBERS: [[usize; 2]; 6] = [[0, 3], [4, 2], [6, 2], [8, 2], [11, 2], [13, 2]];
+
+/// Places that are one although they are spelled in two ways, and two although they are one on the ground.
+const TELLING_PLACES: [&[u8; 15]; 5] = [
+    b"000E000000N0000",
+    b"000W000000N0000",
+    b"000E000000S0000",
+    b"180E000000N0000",
+    b"180W000000N0000",
+];

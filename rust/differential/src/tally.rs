@@ -8,10 +8,11 @@ const REFUSALS: &[(&str, &[u8])] = &[
     ("judge", &[0, 1, 2, 3]),
     ("replace", &[0, 1, 2, 3, 4, 5, 6]),
     ("verify", &[0, 1, 2, 3]),
-    ("turn_forward", &[0, 1, 2, 3, 4, 13]),
-    ("turn_back", &[0, 1, 2, 3, 4, 13]),
+    ("replay", &[0, 1, 2, 3]),
+    ("operators", &[0, 1, 2, 17]),
     ("show", &[0, 1, 2, 5, 8]),
     ("station_code", &[0, 6, 9]),
+    ("station_kind", &[0, 6, 9]),
     ("header_code", &[0, 6, 9]),
     ("respell_station", &[0, 6, 7, 9]),
     ("respell_header", &[0, 6, 7, 9]),
@@ -28,11 +29,25 @@ const REFUSALS: &[(&str, &[u8])] = &[
     ("carriage_number", &[0, 12]), // how many digits; it has no refusal
 ];
 
+/// The kinds that a station's code can have: a byte is one for every field, range and shape are
+/// for some.
+pub fn kinds_of(code: u8) -> &'static [u8] {
+    match code {
+        0 => &[0],
+        1 | 8 | 11 | 17 | 18 | 24 | 28 | 29 => &[1, 2, 3],
+        2 | 25 => &[1, 2],
+        3 | 7 | 16 | 27 => &[1],
+        4..=30 => &[1, 3],
+        _ => &[4],
+    }
+}
+
 /// Counts of answers, by what was asked and what was given.
 #[derive(Default)]
 pub struct Tally {
     refusals: BTreeMap<(&'static str, u8), u64>,
     station_codes: BTreeMap<u8, u64>,
+    kinds: BTreeMap<(u8, u8), u64>,
     header_codes: BTreeMap<u8, u64>,
     list_out_codes: BTreeMap<u8, u64>,
     list_in_codes: BTreeMap<u8, u64>,
@@ -41,6 +56,11 @@ pub struct Tally {
     rows_written: BTreeMap<usize, u64>,
     twins: u64,
     far_twins: u64,
+    clashes: u64,
+    far_clashes: u64,
+    clashes_of_twins: u64,
+    days: [u64; 3],
+    pages: BTreeMap<usize, u64>,
 }
 
 impl Tally {
@@ -64,14 +84,26 @@ impl Tally {
         }
     }
 
-    /// Counts the codes and twins of a judged sheet.
+    /// Counts the kind of a code.
+    pub fn kind(&mut self, (refusal, code, kind): (u8, u8, u8)) {
+        self.refusal("station_kind", refusal);
+        if refusal == 0 || refusal == 9 {
+            *self.kinds.entry((code, kind)).or_default() += 1;
+        }
+    }
+
+    /// Counts the codes, twins and clashes of a judged sheet.
     pub fn sheet(&mut self, sheet: &[u8]) {
         let (rows, trailer) = sheet.split_at(sheet.len() - 10);
-        for row in rows.chunks_exact(3) {
+        for row in rows.chunks_exact(5) {
             *self.row_codes.entry(row[0]).or_default() += 1;
             let twin = u16::from_be_bytes([row[1], row[2]]);
             self.twins += u64::from(twin != 0);
             self.far_twins += u64::from(twin > 255);
+            let clash = u16::from_be_bytes([row[3], row[4]]);
+            self.clashes += u64::from(clash != 0);
+            self.far_clashes += u64::from(clash > 255);
+            self.clashes_of_twins += u64::from(clash != 0 && twin != 0);
         }
         *self.sheet_header_codes.entry(trailer[3]).or_default() += 1;
     }
@@ -79,6 +111,17 @@ impl Tally {
     /// Counts the rows that a replacement wrote.
     pub fn rows_written(&mut self, rows: usize) {
         *self.rows_written.entry(rows).or_default() += 1;
+    }
+
+    /// Counts a day that was run again: the saves accepted and refused, and whether it was stopped.
+    pub fn day(&mut self, accepted: usize, refused: usize, stopped: usize) {
+        let met = [accepted as u64, refused as u64, u64::from(stopped != 0)];
+        self.days.iter_mut().zip(met).for_each(|(sum, met)| *sum += met);
+    }
+
+    /// Counts a page of so many operators.
+    pub fn page(&mut self, operators: usize) {
+        *self.pages.entry(operators).or_default() += 1;
     }
 
     /// How many calls were compared.
@@ -97,6 +140,7 @@ impl Tally {
             }
         }
         assert_met("station_code", &self.station_codes, 39);
+        self.assert_kinds();
         assert_met("header_code", &self.header_codes, 14);
         assert_met("list_out", &self.list_out_codes, 39);
         assert_met("list_in", &self.list_in_codes, 39);
@@ -104,11 +148,34 @@ impl Tally {
         assert_met("sheet's header", &self.sheet_header_codes, 15);
         assert!(self.twins > 0, "no twin was met");
         assert!(self.far_twins > 0, "no twin above 255 was met");
+        assert!(self.clashes > 0, "no clash was met");
+        assert!(self.far_clashes > 0, "no clash above 255 was met");
+        assert!(self.clashes_of_twins > 0, "no row with a twin and a clash was met");
+        assert!(
+            self.days.iter().all(|&met| met > 0),
+            "accepted, refused, stopped: {:?}",
+            self.days
+        );
+        for operators in [0, 1, 2, 3, 100] {
+            let met = self.pages.contains_key(&operators);
+            assert!(met, "no page of {operators} operators was met");
+        }
         for rows in 0..=2 {
             assert!(self.rows_written.contains_key(&rows), "no replacement wrote {rows} rows");
         }
         let most = self.rows_written.keys().max().copied().unwrap_or(0);
         assert!(most >= 100, "no replacement wrote many rows");
+    }
+}
+
+impl Tally {
+    /// Fails unless every code came with every kind that it can have, and with no other.
+    fn assert_kinds(&self) {
+        for code in 0..=39 {
+            let met: Vec<u8> =
+                (0..=4).filter(|&kind| self.kinds.contains_key(&(code, kind))).collect();
+            assert_eq!(met, kinds_of(code), "the kinds of code {code}");
+        }
     }
 }
 
@@ -130,13 +197,25 @@ impl fmt::Display for Tally {
             writeln!(f)?;
         }
         write_codes(f, "station codes", &self.station_codes)?;
+        write!(f, "{:16}", "codes and kinds")?;
+        for ((code, kind), count) in &self.kinds {
+            write!(f, " {code}.{kind}:{count}")?;
+        }
+        writeln!(f)?;
         write_codes(f, "header codes", &self.header_codes)?;
         write_codes(f, "codes, list_out", &self.list_out_codes)?;
         write_codes(f, "codes, list_in", &self.list_in_codes)?;
         write_codes(f, "codes in rows", &self.row_codes)?;
         write_codes(f, "codes in trailers", &self.sheet_header_codes)?;
+        let [accepted, refused, stopped] = self.days;
+        writeln!(
+            f,
+            "{:16} accepted {accepted} refused {refused} stopped {stopped}",
+            "saves of days"
+        )?;
         let rows = self.rows_written.iter().map(|(rows, count)| *rows as u64 * count).sum::<u64>();
-        write!(f, "twins {}, rows written {rows}, calls {}", self.twins, self.calls())
+        let (twins, clashes, calls) = (self.twins, self.clashes, self.calls());
+        write!(f, "twins {twins}, clashes {clashes}, rows written {rows}, calls {calls}")
     }
 }
 

@@ -63,19 +63,24 @@ impl Asked {
     }
 }
 
+/// A file, or standard input where it is `-`, to be read in parts.
+pub fn open(path: &Path) -> Outcome<Box<dyn Read>> {
+    if path == Path::new("-") {
+        return Ok(Box::new(io::stdin()));
+    }
+    let trouble = |error: io::Error| Trouble::unreadable(path, plain(&error));
+    let file = File::open(path).map_err(trouble)?;
+    match file.metadata().map_err(trouble)?.is_dir() {
+        true => Err(Trouble::unreadable(path, "it is a directory")),
+        false => Ok(Box::new(file)),
+    }
+}
+
 /// All bytes of a file, or of standard input where it is `-`.
 pub fn read(path: &Path) -> Outcome<Vec<u8>> {
     let mut bytes = Vec::new();
-    let trouble = |error: io::Error| Trouble::unreadable(path, plain(&error));
-    let got = if path == Path::new("-") {
-        io::stdin().take(MOST + 1).read_to_end(&mut bytes).map_err(trouble)?
-    } else {
-        let file = File::open(path).map_err(trouble)?;
-        if file.metadata().map_err(trouble)?.is_dir() {
-            return Err(Trouble::unreadable(path, "it is a directory"));
-        }
-        file.take(MOST + 1).read_to_end(&mut bytes).map_err(trouble)?
-    };
+    let got = open(path)?.take(MOST + 1).read_to_end(&mut bytes);
+    let got = got.map_err(|error| Trouble::unreadable(path, plain(&error)))?;
     if got as u64 > MOST {
         return Err(Trouble::unreadable(path, format!("it has more than {MOST} bytes")));
     }

@@ -2,7 +2,7 @@
 
 use std::path::Path;
 
-use desk::{Refusal, MAX_STATIONS, RECORD_LENGTH};
+use desk::{Refusal, Replayed, MAX_STATIONS, RECORD_LENGTH};
 
 use crate::asked;
 use crate::rules;
@@ -14,8 +14,11 @@ const COUNT: usize = 9;
 /// The field of a station that holds its reference, 13X.
 const REFERENCE: usize = 30;
 
-/// The bytes of a row of a sheet: a code, and a twin of two bytes.
-pub const ROW_WIDTH: usize = 3;
+/// Where operator and site stand in 13X: its places 6 to 11.
+const SITE: std::ops::Range<usize> = 5..11;
+
+/// The bytes of a row of a sheet: a code, and a twin and a clash of two bytes each.
+pub const ROW_WIDTH: usize = 5;
 
 /// A file that the library judges, and the sheet that it gave.
 pub struct Filing {
@@ -57,6 +60,16 @@ impl Filing {
         Filing::new(bytes)
     }
 
+    /// Runs a trace of saves on the filing, which then is what they left, with its sheet.
+    pub fn replay(&mut self, trace: &[u8]) -> Replayed {
+        desk::replay(&mut self.bytes, &mut self.sheet, trace).expect("a filing has its lengths")
+    }
+
+    /// The sheet that the filing is judged to.
+    pub fn sheet(&self) -> &[u8] {
+        &self.sheet
+    }
+
     /// All bytes.
     pub fn bytes(&self) -> &[u8] {
         &self.bytes
@@ -96,9 +109,9 @@ impl Filing {
     pub fn report(&self) -> String {
         let mut report = format!("header {}\n", self.header_code());
         for station in 1..=self.stations() {
-            let (code, twin) = (self.code(station), self.twin(station));
-            if (code, twin) != (0, 0) {
-                report += &format!("station {station} code {code} twin {twin}\n");
+            let (code, twin, clash) = (self.code(station), self.twin(station), self.clash(station));
+            if (code, twin, clash) != (0, 0, 0) {
+                report += &format!("station {station} code {code} twin {twin} clash {clash}\n");
             }
         }
         report + &format!("stations {} bad {}\n", self.stations(), self.bad())
@@ -123,6 +136,11 @@ impl Filing {
                 let reference = quoted(self.reference(station));
                 words += &format!("station {station}: 13X {reference} is that of station {twin} too; one of them needs another reference, or has to go\n");
             }
+            let clash = self.clash(station);
+            if clash != 0 {
+                let site = quoted(&self.reference(station)[SITE]);
+                words += &format!("station {station}: operator and site {site} are those of station {clash} too, which stands at another place (4C) or height (9Y); a site has one of each, so correct the one that is wrong, or give one station another site\n");
+            }
         }
         words
     }
@@ -135,6 +153,11 @@ impl Filing {
     /// A station's twin.
     fn twin(&self, station: usize) -> usize {
         self.number(ROW_WIDTH * (station - 1) + 1)
+    }
+
+    /// A station's clash.
+    fn clash(&self, station: usize) -> usize {
+        self.number(ROW_WIDTH * (station - 1) + 3)
     }
 
     /// A number of two bytes of the sheet, high byte first.

@@ -9,10 +9,11 @@ use std::process::ExitCode;
 
 use desk::{Finding, LongField, Refusal, RECORD_LENGTH};
 
-use crate::asked::{plain, read, Asked};
+use crate::asked::{self, plain, read, Asked};
 use crate::carriages;
 use crate::changes::Changes;
 use crate::cleaning::clean;
+use crate::days;
 use crate::filings::Filing;
 use crate::lists::{lines, take_in};
 use crate::rules;
@@ -75,6 +76,12 @@ const PROGRAMS: &[Program] = &[
         options: &["--records"],
         usage: include_str!("../../../tools/carriages"),
         act: carriages,
+    },
+    Program {
+        name: "replay",
+        options: &[],
+        usage: include_str!("../../../tools/replay"),
+        act: replay,
     },
     Program {
         name: "titles",
@@ -386,6 +393,55 @@ fn carriages(asked: &Asked) -> Outcome<()> {
             put(&list.map_err(|refusal| Trouble::Refused(refusal.to_string()))?)
         }
         lines => Err(Trouble::Refused(format!("nothing is printed: {} refused", are(lines)))),
+    }
+}
+
+fn replay(asked: &Asked) -> Outcome<()> {
+    let names: Vec<&Path> = asked.files.iter().map(|file| file.as_path()).collect();
+    let (inputs, outputs) = names.split_at(names.len().min(2));
+    let [morning, trace] = inputs[..] else {
+        return Err(Trouble::Wrong(format!("{} of 2 files are named", inputs.len())));
+    };
+    if inputs == [Path::new("-"); 2] {
+        return Err(Trouble::Wrong("one of them has to be a file".to_string()));
+    }
+    if let Some(word) = outputs.get(2) {
+        return Err(Trouble::Wrong(format!("{} is a word too many", word.display())));
+    }
+    for (index, path) in outputs.iter().enumerate() {
+        can_hold(path)?;
+        let others = inputs.iter().chain(&outputs[..index]);
+        if others.into_iter().any(|other| other == path || same_file(other, path)) {
+            let name = path.display();
+            return Err(Trouble::Wrong(format!("{name} is named twice, and is not written over")));
+        }
+    }
+    let mut filing = Filing::read(morning)?;
+    let day = days::run(&mut filing, asked::open(trace)?)
+        .map_err(|error| Trouble::unreadable(trace, plain(&error)))?;
+    let stopped = day.stopped.as_ref().map_or(0, |(number, _)| *number);
+    put(format!("saves {} refused {} stopped {stopped}\n", day.accepted, day.refused).as_bytes())?;
+    put(filing.report().as_bytes())?;
+    if let Some(list) = outputs.first() {
+        write(list, filing.bytes())?;
+    }
+    if let [list, sheet] = outputs {
+        write(sheet, filing.sheet()).map_err(|trouble| {
+            Trouble::Unusable(format!("{trouble}, but {} is written", list.display()))
+        })?;
+    }
+    if let Some((number, save)) = &day.stopped {
+        let why = days::why(save);
+        return Err(Trouble::Refused(format!("save {number} {why}; the saves before it stand")));
+    }
+    match (day.refused, filing.header_code(), filing.bad()) {
+        (0, 0, 0) => Ok(()),
+        (0, _, _) => Err(Trouble::Refused("something is bad, as the report says".to_string())),
+        (saves, _, _) => Err(Trouble::Refused(format!(
+            "of the saves {} refused, with a number above {}",
+            are(saves),
+            filing.stations()
+        ))),
     }
 }
 

@@ -1,14 +1,18 @@
 //! A sheet that somebody else wrote: what is found of it, in words.
 
-use desk::{old_sheet_length, sheet_length, Refusal, RECORD_LENGTH};
+use desk::{sheet_length, Refusal, RECORD_LENGTH};
 
-use crate::filings::ROW_WIDTH;
+use crate::filings::{quoted, ROW_WIDTH};
 
 /// The part of a sheet that holds the byte at an offset.
 pub fn part(stations: usize, offset: usize) -> String {
     let (row, place) = (offset / ROW_WIDTH, offset % ROW_WIDTH);
     if row < stations {
-        let words = if place == 0 { "code" } else { "twin" };
+        let words = match place {
+            0 => "code",
+            1 | 2 => "twin",
+            _ => "clash",
+        };
         return format!("the {words} of station {}", row + 1);
     }
     let words = match offset - ROW_WIDTH * stations {
@@ -28,10 +32,10 @@ pub fn why(file: &[u8], sheet: &[u8], refusal: Refusal) -> String {
         return format!("{refusal}; it has {} bytes", file.len());
     }
     let stations = file.len() / RECORD_LENGTH - 1;
-    if sheet.len() == old_sheet_length(stations) && sheet.ends_with(b"2A") {
-        return "the sheet has the old form; turn it first (desk_turn_forward)".to_string();
-    }
     let wanted = sheet_length(stations);
+    if sheet.ends_with(b"2A") || sheet.ends_with(b"2B") {
+        return format!("the sheet ends in {}, so that it has an older form; ask for one judged again, of {wanted} bytes", quoted(&sheet[sheet.len() - 2..]));
+    }
     format!("the sheet has {} bytes, and {stations} stations ask for {wanted}", sheet.len())
 }
 
@@ -44,7 +48,8 @@ mod tests {
         let parts: Vec<String> = (0..sheet_length(2)).map(|offset| part(2, offset)).collect();
         assert_eq!(parts[0], "the code of station 1");
         assert_eq!(parts[1..3], ["the twin of station 1", "the twin of station 1"]);
-        assert_eq!(parts[3], "the code of station 2");
+        assert_eq!(parts[3..5], ["the clash of station 1", "the clash of station 1"]);
+        assert_eq!(parts[5], "the code of station 2");
         let trailer = [
             "distance",
             "distance",
@@ -57,6 +62,6 @@ mod tests {
             "mark",
             "mark",
         ];
-        assert_eq!(parts[6..], trailer.map(|words| format!("the {words} in the trailer")));
+        assert_eq!(parts[10..], trailer.map(|words| format!("the {words} in the trailer")));
     }
 }

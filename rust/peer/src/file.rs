@@ -1,11 +1,12 @@
-//! Files and their sheets, with wish 4 of 02: judging, replacing and showing.
+//! Files and their sheets, with wishes 4 and 8 of 02: judging, replacing and showing.
 
 use std::ops::Range;
 
 use crate::columns::{part, Record, HEADER_FIELDS, RECORD_LENGTH, STATION_FIELDS};
 use crate::header::header_code_in_file;
 use crate::refusal::Refusal;
-use crate::station::station_code;
+use crate::station::Station;
+use crate::values::{Metres, Place};
 
 /// The most stations that a file holds.
 pub const MAX_STATIONS: usize = 298;
@@ -13,9 +14,9 @@ pub const MAX_STATIONS: usize = 298;
 /// The most bytes that a file has: a header and 298 stations.
 pub const MAX_FILE_LENGTH: usize = (MAX_STATIONS + 1) * RECORD_LENGTH;
 
-const ROW_WIDTH: usize = 3;
+const ROW_WIDTH: usize = 5;
 const TRAILER_LENGTH: usize = 10;
-const MARK: [u8; 2] = *b"2B";
+const MARK: [u8; 2] = *b"2C";
 
 type Row = [u8; ROW_WIDTH];
 
@@ -29,8 +30,9 @@ pub fn judge(file: &[u8], sheet: &mut [u8]) -> Result<(), Refusal> {
     check_length(file)?;
     let (header, stations) = records(file);
     let (rows, trailer) = split_sheet(sheet, stations.len())?;
-    for (k, (row, station)) in rows.iter_mut().zip(stations).enumerate() {
-        *row = row_of(station, twin(first(stations, reference(station)), k));
+    let judged: Vec<Judged> = stations.iter().map(Judged::of).collect();
+    for (k, row) in rows.iter_mut().enumerate() {
+        *row = row_of(stations, &judged, k);
     }
     let [high, low] = distance(stations.len());
     let header_code = header_code_in_file(header, stations.len());
@@ -61,7 +63,7 @@ pub fn replace(
             0
         }
         Some(k) => {
-            let old = *reference(&stations[k]);
+            let old = *site(&stations[k]);
             stations[k] = *record;
             mend(stations, rows, k, &old)
         }
@@ -100,7 +102,7 @@ pub(crate) fn check_length(file: &[u8]) -> Result<(), Refusal> {
 }
 
 /// Header and stations of a file whose length was found right.
-fn records(file: &[u8]) -> (&Record, &[Record]) {
+pub(crate) fn records(file: &[u8]) -> (&Record, &[Record]) {
     file.as_chunks().0.split_first().expect("a file has a header")
 }
 
@@ -125,8 +127,8 @@ fn distance(stations: usize) -> [u8; 2] {
 }
 
 fn check_trailer(trailer: &[u8; TRAILER_LENGTH], stations: usize) -> Result<(), Refusal> {
-    let [high, low, width, .., two, b] = *trailer;
-    if [high, low] == distance(stations) && usize::from(width) == ROW_WIDTH && [two, b] == MARK {
+    let [high, low, width, .., two, c] = *trailer;
+    if [high, low] == distance(stations) && usize::from(width) == ROW_WIDTH && [two, c] == MARK {
         Ok(())
     } else {
         Err(Refusal::SheetTrailer)
@@ -137,39 +139,61 @@ fn reference(station: &Record) -> &[u8; 15] {
     part(station, &STATION_FIELDS, 30)
 }
 
-/// The index of the first station with this 13X; the number of stations if there is none.
-fn first(stations: &[Record], wanted: &[u8; 15]) -> usize {
-    stations.iter().position(|station| reference(station) == wanted).unwrap_or(stations.len())
+/// The operator and site in a 13X: its places 6 to 11.
+fn site(station: &Record) -> &[u8; 6] {
+    reference(station)[5..11].try_into().expect("places 6 to 11 are six")
 }
 
-/// A row: the code, then the twin, high byte first.
-fn row_of(station: &Record, twin: u16) -> Row {
-    let [high, low] = twin.to_be_bytes();
-    [station_code(station), high, low]
+/// A station's code, and where it stands and how high if that is 0.
+#[derive(Clone, Copy)]
+struct Judged {
+    code: u8,
+    stands: Option<(Place, Metres)>,
 }
 
-/// The twin of the station at `index`, given the first station with its 13X.
-fn twin(first: usize, index: usize) -> u16 {
-    if first < index {
-        first as u16 + 1
-    } else {
-        0
+impl Judged {
+    fn of(station: &Record) -> Judged {
+        match Station::read(station) {
+            Ok(station) => Judged { code: 0, stands: Some((station.place, station.ground)) },
+            Err(refusal) => Judged { code: refusal.code(), stands: None },
+        }
     }
 }
 
-/// Writes row `k` and every later row whose 13X is the old or the new one of `k`.
-fn mend(stations: &[Record], rows: &mut [Row], k: usize, old: &[u8; 15]) -> usize {
-    let new = reference(&stations[k]);
-    let (first_old, first_new) = (first(stations, old), first(stations, new));
+/// The number of the first station that is asked for, or 0.
+fn number(index: Option<usize>) -> [u8; 2] {
+    index.map_or(0, |index| index as u16 + 1).to_be_bytes()
+}
+
+/// The row of the station at `k`: its code, its twin and its clash.
+fn row_of(stations: &[Record], judged: &[Judged], k: usize) -> Row {
+    let (own, before) = (&stations[k], &stations[..k]);
+    let twin = before.iter().position(|other| reference(other) == reference(own));
+    let clash = judged[k].stands.and_then(|here| {
+        let elsewhere = |other: &Judged| other.stands.is_some_and(|there| there != here);
+        let mut others = before.iter().zip(judged);
+        others.position(|(other, judged)| site(other) == site(own) && elsewhere(judged))
+    });
+    let ([twin_high, twin_low], [clash_high, clash_low]) = (number(twin), number(clash));
+    [judged[k].code, twin_high, twin_low, clash_high, clash_low]
+}
+
+/// Writes row `k` and every later row whose operator and site are the old or the new ones of `k`.
+fn mend(stations: &[Record], rows: &mut [Row], k: usize, old: &[u8; 6]) -> usize {
+    let new = site(&stations[k]);
+    let meant = |station: &Record| site(station) == old || site(station) == new;
+    // No row of these sites asks for a station of another.
+    let unasked = Judged { code: 0, stands: None };
+    let judged: Vec<Judged> = stations
+        .iter()
+        .map(|station| if meant(station) { Judged::of(station) } else { unasked })
+        .collect();
     let mut written = 0;
-    for (j, (row, station)) in rows.iter_mut().zip(stations).enumerate().skip(k) {
-        let first = match reference(station) {
-            own if own == new => first_new,
-            own if own == old => first_old,
-            _ => continue,
-        };
-        *row = row_of(station, twin(first, j));
-        written += 1;
+    for (j, row) in rows.iter_mut().enumerate().skip(k) {
+        if meant(&stations[j]) {
+            *row = row_of(stations, &judged, j);
+            written += 1;
+        }
     }
     written
 }

@@ -1,4 +1,5 @@
-//! The reasons for which a call does nothing, by their numbers in 01 and in wishes 1, 4 and 6 of 02.
+//! The reasons for which a call does nothing, by their numbers in 01 and in wishes 1, 6 and 9 of 02. No call gives
+//! 13, which was wish 4's and went with wish 8.
 
 use std::fmt;
 
@@ -9,9 +10,9 @@ pub enum Refusal {
     FileTooLong,
     /// 2: the file's length is zero or no multiple of 219.
     FileNotRecords,
-    /// 3: the lent sheet is not exactly 3n + 10 bytes.
+    /// 3: the lent sheet is not exactly 5n + 10 bytes.
     SheetLength,
-    /// 4: the sheet's trailer lacks "2B", width 3 or distance 3n + 10.
+    /// 4: the sheet's trailer lacks "2C", width 5 or distance 5n + 10.
     SheetTrailer,
     /// 5: the record number is above n.
     NoSuchRecord,
@@ -29,14 +30,14 @@ pub enum Refusal {
     FieldTooLong,
     /// 12: the lent buffer is shorter than the line.
     BufferTooShort,
-    /// 13: an old form with more than 250 stations.
-    OldFormTooMany,
     /// 14: the vehicle number has not twelve digits.
     NotTwelveDigits,
     /// 15: the last digit of the vehicle number is wrong.
     LastDigitWrong,
     /// 16: the defaults are not an accepted ML station.
     NotMobileDefaults,
+    /// 17: the lent list has fewer rows than operators found.
+    TooFewRows,
 }
 
 impl Refusal {
@@ -55,10 +56,10 @@ impl Refusal {
             Refusal::NotALine => 10,
             Refusal::FieldTooLong => 11,
             Refusal::BufferTooShort => 12,
-            Refusal::OldFormTooMany => 13,
             Refusal::NotTwelveDigits => 14,
             Refusal::LastDigitWrong => 15,
             Refusal::NotMobileDefaults => 16,
+            Refusal::TooFewRows => 17,
         }
     }
 

@@ -445,54 +445,125 @@ fn header_codes() {
 fn two_equal_stations() {
     let mut file = file(header(2), &[*S, *S]);
     let mut sheet = judged(&file);
-    assert_eq!(sheet, [0, 0, 0, 0, 0, 1, 0, 0x10, 3, 0, 0, 2, 0, 1, 0x32, 0x42]);
+    assert_eq!(sheet, [0, 0, 0, 0, 0, 0, 0, 1, 0, 0, 0, 0x14, 5, 0, 0, 2, 0, 1, 0x32, 0x43]);
     let renamed = s_with(30, b"AUT2311AB01A002");
     assert_eq!(replace(&mut file, &mut sheet, 1, &renamed), Ok(2));
-    assert_eq!(sheet, [0, 0, 0, 0, 0, 0, 0, 0x10, 3, 0, 0, 0, 0, 0, 0x32, 0x42]);
+    assert_eq!(sheet, [0, 0, 0, 0, 0, 0, 0, 0, 0, 0, 0, 0x14, 5, 0, 0, 0, 0, 0, 0x32, 0x43]);
     assert_eq!(sheet, judged(&file));
 }
 
 #[test]
 fn a_header_alone() {
-    assert_eq!(judged(&header(0)), [0, 10, 3, 0, 0, 0, 0, 0, b'2', b'B']);
-    assert_eq!(judged(&header(1)), [0, 10, 3, 15, 0, 0, 0, 0, b'2', b'B']);
+    assert_eq!(judged(&header(0)), [0, 10, 5, 0, 0, 0, 0, 0, b'2', b'C']);
+    assert_eq!(judged(&header(1)), [0, 10, 5, 15, 0, 0, 0, 0, b'2', b'C']);
 }
 
 #[test]
 fn a_full_file() {
     let full = file(header(298), &[*S; 298]);
     let sheet = judged(&full);
-    assert_eq!(&sheet[891..], [0, 0, 1, 0x03, 0x88, 3, 0, 0, 2, 1, 41, b'2', b'B']);
+    assert_eq!(&sheet[1485..], [0, 0, 1, 0, 0, 0x05, 0xdc, 5, 0, 0, 2, 1, 41, b'2', b'C']);
     let long = [full, S.to_vec()].concat();
-    assert_eq!(judge(&long, &mut [0; 907]), Err(Refusal::FileTooLong));
+    assert_eq!(judge(&long, &mut [0; 1505]), Err(Refusal::FileTooLong));
 }
 
 #[test]
 fn numbers_of_two_bytes() {
     let mut stations: Vec<Record> =
-        (1..=298).map(|k| s_with(30, format!("AUT2311AB{:03}001", k).as_bytes())).collect();
+        (1..=298).map(|k| s_with(30, format!("AUT2311A{k:03}B001").as_bytes())).collect();
     stations[297] = stations[256];
     let sheet = judged(&file(header(298), &stations));
-    assert_eq!(&sheet[891..], [0, 1, 1, 0x03, 0x88, 3, 0, 1, 42, 0, 1, b'2', b'B']);
+    assert_eq!(&sheet[1485..], [0, 1, 1, 0, 0, 0x05, 0xdc, 5, 0, 1, 42, 0, 1, b'2', b'C']);
+    let mut moved = s_with(30, b"AUT2311A257B009");
+    moved[107..111].copy_from_slice(b"  31");
+    stations[297] = moved;
+    let sheet = judged(&file(header(298), &stations));
+    assert_eq!(&sheet[1485..], [0, 0, 0, 1, 1, 0x05, 0xdc, 5, 0, 1, 42, 0, 1, b'2', b'C']);
+}
+
+/// The clash in each row of the sheet of these stations.
+fn clashes(stations: &[Record]) -> Vec<u16> {
+    let sheet = judged(&file(header(stations.len() as i64), stations));
+    let rows = sheet[..5 * stations.len()].chunks(5);
+    rows.map(|row| u16::from_be_bytes([row[3], row[4]])).collect()
+}
+
+/// Station S under another number of the same site, with other texts for 4C and 9Y.
+fn at_site(number: usize, place: &[u8; 15], ground: &[u8; 4]) -> Record {
+    let mut record = s_with(30, format!("AUT2311AB01A{number:03}").as_bytes());
+    record[51..66].copy_from_slice(place);
+    record[107..111].copy_from_slice(ground);
+    record
 }
 
 #[test]
-fn turning() {
-    let two = file(header(2), &[*S, *S]);
-    let old = [0, 0, 0, 1, 0, 0x0c, 2, 0, 2, 1, 0x32, 0x41];
-    let mut new = [9; 16];
-    assert_eq!(turn_forward(&two, &old, &mut new), Ok(()));
-    assert_eq!(new.as_slice(), judged(&two));
-    let mut again = [9; 12];
-    assert_eq!(turn_back(&two, &new, &mut again), Ok(()));
-    assert_eq!(again, old);
-    assert_eq!(turn_forward(&two, &new, &mut again), Err(Refusal::SheetLength));
-    again[11] = b'B';
-    assert_eq!(turn_forward(&two, &again, &mut new), Err(Refusal::SheetTrailer));
-    let many = file(header(251), &[*S; 251]);
-    let mut small = vec![7; old_sheet_length(251)];
-    assert_eq!(turn_back(&many, &judged(&many), &mut small), Err(Refusal::OldFormTooMany));
-    assert!(small.iter().all(|byte| *byte == 7));
+fn one_site_one_place() {
+    let here = b"016E220548N1200";
+    let there = b"016E220648N1200";
+    let (a, b) = (at_site(1, here, b"  30"), at_site(2, there, b"  30"));
+    assert_eq!(clashes(&[a, at_site(2, here, b"0030")]), [0, 0]);
+    assert_eq!(clashes(&[a, at_site(2, b" 16E22 548N12 0", b"  30")]), [0, 0]);
+    assert_eq!(clashes(&[a, at_site(2, here, b"  31")]), [0, 1]);
+    assert_eq!(clashes(&[a, b]), [0, 1]);
+    // The third stands where the first does, so that it clashes with the second.
+    assert_eq!(clashes(&[a, b, at_site(3, here, b"  30")]), [0, 1, 2]);
+    assert_eq!(clashes(&[a, b, at_site(3, there, b"  31")]), [0, 1, 1]);
+    // The letter of zero seconds says nothing; 180 degrees are two places.
+    let zero = |letter| {
+        at_site(
+            1,
+            &[
+                b'0', b'0', b'0', letter, b'0', b'0', b'0', b'0', b'0', b'0', b'N', b'0', b'0',
+                b'0', b'0',
+            ],
+            b"  30",
+        )
+    };
+    assert_eq!(clashes(&[zero(b'E'), zero(b'W')]), [0, 0]);
+    assert_eq!(
+        clashes(&[
+            at_site(1, b"180E000000N0000", b"  30"),
+            at_site(2, b"180W000000N0000", b"  30")
+        ]),
+        [0, 1]
+    );
+    // Another operator, or another letter of the site, is another site; the place after it is not looked at.
+    let mut other = b;
+    other[209] = b'2';
+    assert_eq!(clashes(&[a, other]), [0, 0]);
+    let mut other = b;
+    other[214] = b'2';
+    assert_eq!(clashes(&[a, other]), [0, 0]);
+    let mut other = b;
+    other[215] = b'Z';
+    assert_eq!(clashes(&[a, other]), [0, 1]);
+}
+
+#[test]
+fn stations_that_break_a_rule_do_not_clash() {
+    let (a, b) = (*S, at_site(2, b"016E220648N1200", b"  30"));
+    let mut broken = a;
+    broken[12] = b'9';
+    assert_eq!(clashes(&[broken, b]), [0, 0]);
+    assert_eq!(clashes(&[b, broken]), [0, 0]);
+    assert_eq!(clashes(&[broken, a, b]), [0, 0, 2]);
+    // Mended, the first one clashes with the later: two rows are written.
+    let mut list = file(header(3), &[broken, b, s_with(30, b"AUT2311AB02A003")]);
+    let mut sheet = judged(&list);
+    assert_eq!(sheet[..15], [3, 0, 0, 0, 0, 0, 0, 0, 0, 0, 0, 0, 0, 0, 0]);
+    assert_eq!(replace(&mut list, &mut sheet, 1, &a), Ok(2));
+    assert_eq!(sheet[..15], [0, 0, 0, 0, 0, 0, 0, 0, 0, 1, 0, 0, 0, 0, 0]);
+    assert_eq!(sheet, judged(&list));
+}
+
+#[test]
+fn a_full_file_at_one_site() {
+    let places: Vec<Record> = (1..=298)
+        .map(|k| at_site(k, b"016E220548N1200", format!("{k:4}").as_bytes().try_into().unwrap()))
+        .collect();
+    let found = clashes(&places);
+    assert_eq!(found[0], 0);
+    assert!(found[1..].iter().all(|clash| *clash == 1));
 }
 
 #[test]
@@ -500,11 +571,11 @@ fn verifying() {
     let two = file(header(2), &[*S, *S]);
     let mut sheet = judged(&two);
     assert_eq!(verify(&two, &sheet), Ok(None));
-    sheet[15] = b'A';
-    assert_eq!(verify(&two, &sheet), Ok(Some(15)));
+    sheet[19] = b'A';
+    assert_eq!(verify(&two, &sheet), Ok(Some(19)));
     sheet[0] = 1;
     assert_eq!(verify(&two, &sheet), Ok(Some(0)));
-    assert_eq!(verify(&two, &sheet[..15]), Err(Refusal::SheetLength));
+    assert_eq!(verify(&two, &sheet[..19]), Err(Refusal::SheetLength));
     assert_eq!(verify(&two[1..], &sheet), Err(Refusal::FileNotRecords));
     assert_eq!(verify(&[b' '; MAX_FILE_LENGTH + 1], &[]), Err(Refusal::FileTooLong));
 }
@@ -514,17 +585,20 @@ fn replacing_the_header_writes_no_row() {
     let mut file = file(header(2), &[*S, *S]);
     let mut sheet = judged(&file);
     assert_eq!(replace(&mut file, &mut sheet, 0, &header(3)), Ok(0));
-    assert_eq!(sheet, [0, 0, 0, 0, 0, 1, 0, 0x10, 3, 15, 0, 2, 0, 1, 0x32, 0x42]);
+    assert_eq!(sheet, [0, 0, 0, 0, 0, 0, 0, 1, 0, 0, 0, 0x14, 5, 15, 0, 2, 0, 1, 0x32, 0x43]);
 }
 
 #[test]
-fn rows_with_the_old_or_new_reference_are_written_even_where_they_are_equal() {
-    let mut file = file(header(4), &[*S; 4]);
+fn rows_with_the_old_or_new_site_are_written_even_where_they_are_equal() {
+    // Numbers 1, 2 and 4 share a site, number 3 has one of its own.
+    let stations = [*S, s_with(30, b"AUT2311AB01A002"), s_with(30, b"AUT2311AB02A003"), *S];
+    let mut file = file(header(4), &stations);
     let mut sheet = judged(&file);
-    sheet[..12].fill(9);
-    assert_eq!(replace(&mut file, &mut sheet, 2, S), Ok(3));
-    assert_eq!(&sheet[..12], [9, 9, 9, 0, 0, 1, 0, 0, 1, 0, 0, 1]);
-    assert_eq!(&sheet[16..20], [0, 1, 0, 4]);
+    sheet[..20].fill(9);
+    assert_eq!(replace(&mut file, &mut sheet, 2, S), Ok(2));
+    assert_eq!(&sheet[..10], [9, 9, 9, 9, 9, 0, 0, 1, 0, 0]);
+    assert_eq!(&sheet[10..20], [9, 9, 9, 9, 9, 0, 0, 1, 0, 0]);
+    assert_eq!(&sheet[24..28], [0, 1, 0, 4]);
 }
 
 #[test]
@@ -532,7 +606,7 @@ fn broken_records_are_put_in() {
     let mut file = file(header(1), &[*S]);
     let mut sheet = judged(&file);
     assert_eq!(replace(&mut file, &mut sheet, 1, &[b' '; 219]), Ok(1));
-    assert_eq!(sheet, [3, 0, 0, 0, 13, 3, 0, 0, 1, 0, 1, b'2', b'B']);
+    assert_eq!(sheet, [3, 0, 0, 0, 0, 0, 15, 5, 0, 0, 1, 0, 1, b'2', b'C']);
 }
 
 #[test]
@@ -549,7 +623,7 @@ fn replacing_refuses_in_order() {
     assert_eq!(refused(&good[1..], &[], 9, &[]), 2);
     assert_eq!(refused(&[], &[], 9, &[]), 2);
     assert_eq!(refused(&good, &sheet[1..], 9, &[]), 3);
-    for byte in [3, 4, 5, 11, 12] {
+    for byte in [5, 6, 7, 13, 14] {
         let mut damaged = sheet.clone();
         damaged[byte] ^= 1;
         assert_eq!(refused(&good, &damaged, 9, &[]), 4);
