@@ -13,8 +13,7 @@ use Rattle.basics.specs.declared.Outcome.{Outcome}
 use Rattle.station.specs.Places.{stationPlaces}
 use Rattle.station.specs.Values.{emptyStation}
 use Rattle.station.specs.Codes.{valueOf, stationCode, typedCode}
-use Rattle.station.specs.Spelling.{spellStation}
-use Rattle.station.specs.Calls.{readOutcome, readStation, writeOutcome, writtenStation}
+use Rattle.station.specs.Calls.{readOutcome, readStation}
 use Rattle.station.specs.declared.Station.{Station}
 use Rattle.semicolons.specs.Fields.{noneLonger}
 use Rattle.semicolons.specs.Lines.{lineOf, lineFields, isLine, recordOf}
@@ -41,11 +40,6 @@ module _ (t : List ℕ) where
   record-read e f rec is o s eo es =
       let size : eqb (length (recordOf t)) recordLength ≡ true = eq-eqb (length (recordOf t)) recordLength (record-length t f) in
       (eo ∙ rw (is, size, e, f), es ∙ rw (is, size, e, f))
-
--- A station that breaks no rule is written into a buffer of 219 bytes.
-pub record-written : (s : Station) (before after : List ℕ) → length before ≡ recordLength → typedCode s ≡ 0 → after ≡ writtenStation s before → after ≡ spellStation s
-unfolding writtenStation writeOutcome firstRefusal ifDone refusal
-record-written s before after n e w = w ∙ rw (eq-eqb (length before) recordLength n, e)
 
 -- How writing a station into a buffer ends, and what is answered and left.
 abbrev Ends : Station → List ℕ → Outcome → ℕ → List ℕ → Type 0

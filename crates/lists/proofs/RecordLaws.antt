@@ -10,17 +10,15 @@ use Rattle.basics.specs.Fields.{recordLength}
 use Rattle.basics.specs.Outcomes.{refusal, ifDone, Test, firstRefusal, recordTest, ruleTest}
 use Rattle.basics.specs.declared.Outcome.{Outcome}
 use Rattle.basics.specs.declared.Outcome.the-variants as outcome
-use Rattle.basics.proofs.RefusalLaws.{done, done-is, if-done, if-refused, passes, ended-there}
+use Rattle.basics.proofs.RefusalLaws.{done, if-done, if-refused, passes, ended-there}
 use Rattle.basics.proofs.CallLaws.{accepted}
 use Rattle.station.specs.Values.{emptyStation}
 use Rattle.station.specs.Codes.{valueOf, stationCode, typedCode}
 use Rattle.station.specs.Spelling.{spellStation}
-use Rattle.station.specs.Calls.{readOutcome, readStation, writtenStation}
+use Rattle.station.specs.Calls.{readOutcome, readStation}
 use Rattle.station.specs.declared.Station.{Station}
 use Rattle.station.proofs.RoundTrip.{read-fits}
 use Rattle.lists.specs.Calls.{lineTests, roomTest, lineOutcome, stationInLine, writeLineOutcome, lineLength, writtenLine, recordListing, listedLength, listedRecord, lineFiling, filedLine}
-use Rattle.lists.proofs.CallLaws.{record-written}
-use Rattle.lists.proofs.Reading.{line-fits}
 
 module _ (r buffer : List ℕ) where
   -- How listing a record into a buffer ends, and what is answered and left.
@@ -86,9 +84,8 @@ module _ (t out : List ℕ) where
     line-refused z = (ends, sym (if-refused (lineFiling t out) _ out (ap done (sym ends) ∙ z)))
 
     -- and any other puts its station there.
-    pub line-filed : done o ≡ true → (v : Station) → v ≡ stationInLine t → (after : List ℕ) → after ≡ writtenStation v out → Files o after
+    pub line-filed : done o ≡ true → (v : Station) → v ≡ stationInLine t → (after : List ℕ) → after ≡ spellStation v → Files o after
     unfolding filedLine
     line-filed z v ev after e =
-        let fits : typedCode v ≡ 0 = ap typedCode ev ∙ line-fits t (sym eo ∙ done-is o z) in
         let filed : ifDone (lineFiling t out) (spellStation (stationInLine t)) out ≡ spellStation (stationInLine t) = if-done (lineFiling t out) _ out (ap done (sym ends) ∙ z) in
-        (ends, record-written v out after n fits e ∙ ap spellStation ev ∙ sym filed)
+        (ends, e ∙ ap spellStation ev ∙ sym filed)

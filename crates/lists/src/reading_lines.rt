@@ -1,10 +1,10 @@
 // Reading a line: the station that it says.
 use basics::Outcome;
+use empties::empty_station;
 use reading::typed::read_station;
 use semicolons::filling::put_fields;
 use semicolons::splitting::is_line;
 use station::Station;
-use station::empty::empty_station;
 ghost use Rattle.lists.specs.Promises.{LineRead};
 
 // How reading a line ends, and the station; on a refusal the empty one.

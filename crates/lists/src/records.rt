@@ -5,7 +5,7 @@ use crate::writing_lines::write_accepted;
 use basics::Outcome;
 use basics::outcomes::is_done;
 use reading::typed::read_station;
-use writing::write_station;
+use writing::put_station;
 ghost use Rattle.lists.specs.Promises.{RecordListed, LineFiled};
 
 // Writes the station of a record as a line; it is refused where the record has another length than 219 bytes, where it breaks
@@ -34,7 +34,7 @@ pub fn line_to_record(line: &[u8], out: &mut [u8]) -> Outcome
     let outcome = read.outcome;
     let station = read.station;
     if is_done(outcome) {
-        write_station(station, out);
+        put_station(station, out);
     }
     outcome
 }

@@ -4,7 +4,7 @@ use semicolons::joining::put_first;
 use semicolons::joining::put_line;
 use station::Station;
 use station::typed::typed_code;
-use writing::write_station;
+use writing::put_station;
 ghost use mathlib.Core.Path.{_≡_};
 ghost use Prim.Native.Nat.{_≤_};
 ghost use lib.ListN.{length, take};
@@ -24,7 +24,7 @@ fn spell_line(s: Station, out: &mut [u8]) -> usize
     ensures { λ r. ⌜ (r ≤ 249) × (take r (now (out .exit)) ≡ lineOf s) ⌝ }
 {
     let mut rec = [b' '; 219];
-    write_station(s, &mut rec);
+    put_station(s, &mut rec);
     put_line(&rec, out)
 }
 

@@ -14,8 +14,8 @@ ghost use Rattle.writing.specs.Promises.{StationWritten};
 
 mod groups;
 
-// Writes a station, whatever it holds.
-fn put_station(s: Station, buffer: &mut [u8])
+// Writes a station, whatever it holds: the part of writing behind its tests, for callers that have judged it.
+pub fn put_station(s: Station, buffer: &mut [u8])
     requires { ⌜ length (now buffer) ≡ 219 ⌝ }
     ensures { λ _. ⌜ now (buffer .exit) ≡ spellStation s ⌝ }
 {

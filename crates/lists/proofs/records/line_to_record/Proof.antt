@@ -15,8 +15,8 @@ read-line-requires c κs = search needs
 is-done-requires : tie.Need-is-done-requires
 is-done-requires c κs = search needs
 
-write-station-requires : tie.Need-write-station-requires
-write-station-requires c κs = search needs
+put-station-requires : tie.Need-put-station-requires
+put-station-requires c κs = search needs
 
 same-length : tie.Need-same-length
 same-length c = search needs
@@ -25,7 +25,7 @@ returns-2 : tie.Need-returns-2
 returns-2 c =
     let a = c .before .before .before .before .before .before .before .before .before .before .before .args in
     let read = c .before .before .before .before .before .before .before .read-line .ensures in
-    line-filed (now (a .line)) (now (a .out)) (c .before .before .before .before .before .before .before .before .if1 .left) _ (read .0) (sym (c .before .before .before .before .before .is-done .ensures) ∙ c .before .before .before .before .if2 .taken) _ (read .1) _ (c .before .before .write-station .ensures .1)
+    line-filed (now (a .line)) (now (a .out)) (c .before .before .before .before .before .before .before .before .if1 .left) _ (read .0) (sym (c .before .before .before .before .before .is-done .ensures) ∙ c .before .before .before .before .if2 .taken) _ (read .1) _ (c .before .before .put-station .ensures)
 
 returns-3 : tie.Need-returns-3
 returns-3 c =
@@ -39,7 +39,7 @@ line-to-record-spec =
     returns
     read-line-requires
     is-done-requires
-    write-station-requires
+    put-station-requires
     same-length
     returns-2
     returns-3)
