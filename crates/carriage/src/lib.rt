@@ -2,6 +2,7 @@
 use basics::Outcome;
 use basics::outcomes::is_done;
 use columns::texts::equal;
+use empties::empty_station;
 use formats::Tenths;
 use frequencies::Frequency;
 use station::Channel;
@@ -9,7 +10,6 @@ use station::Coordination;
 use station::Emission;
 use station::Site;
 use station::Station;
-use station::empty::empty_station;
 use station::typed::typed_code;
 use vehicles::digits::check_number;
 use vehicles::names::name_of;

@@ -1,7 +1,7 @@
 // The desk: reads a filing file from standard input and prints its report.
 use files::lengths::MOST_BYTES;
 use intake::read_input;
-use printing::reports::write_report;
+use reports::write_report;
 ghost use mathlib.Core.Path.{_≡_};
 ghost use Prim.Native.Nat.{_+_, _*_};
 ghost use lib.ListN.{length};

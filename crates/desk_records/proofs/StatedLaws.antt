@@ -4,7 +4,7 @@ use mathlib.Core.List.{List}
 use Prim.Native.Nat.{ℕ}
 use Rattle.basics.specs.declared.Outcome.{Outcome}
 use Rattle.station.specs.declared.Station.{Station}
-use Rattle.rewriting.specs.Promises.{RecordChanged}
+use Rattle.changing.specs.Promises.{RecordChanged}
 
 -- A change to a value that is stated is the change to the value that it says.
 pub value-stated : {A : Type 0} (put : Station → A → Station) {v stated : A} → v ≡ stated → (r : List ℕ) {o : Outcome} {after : List ℕ}

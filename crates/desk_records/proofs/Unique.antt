@@ -8,7 +8,8 @@ use Rattle.station.specs.Setting.{withPower, withAzimuth, withElevation, withHe
 use Rattle.station.specs.declared.Station.{Station}
 use Rattle.header.specs.Calls.{readHeaderOutcome}
 use Rattle.answers.proofs.Unique.{one-answer, one-ending}
-use Rattle.rewriting.specs.Records.{respellOutcome, respelledStation, respellHeaderOutcome, respelledHeader, changeOutcome, changedRecord}
+use Rattle.respelling.specs.Respelling.{respellOutcome, respelledStation, respellHeaderOutcome, respelledHeader}
+use Rattle.changing.specs.Changing.{changeOutcome, changedRecord}
 use Rattle.desk_records.specs.Records.{tenthsStated, heightStated}
 use Rattle.desk_records.specs.Promises.{StationCoded, StationKindTold, HeaderCoded, StationRespelled, HeaderRespelled, RecordChanged, PowerChanged, AzimuthChanged, ElevationChanged, HeightChanged, GroundChanged}
 

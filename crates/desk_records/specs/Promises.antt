@@ -11,7 +11,8 @@ use Rattle.station.specs.Setting.{withPower, withAzimuth, withElevation, withHe
 use Rattle.station.specs.declared.Station.{Station}
 use Rattle.header.specs.Calls.{readHeaderOutcome}
 use Rattle.answers.specs.Endings.{Answered, AnsweredLeaving}
-use Rattle.rewriting.specs.Records.{respellOutcome, respelledStation, respellHeaderOutcome, respelledHeader, changeOutcome, changedRecord}
+use Rattle.respelling.specs.Respelling.{respellOutcome, respelledStation, respellHeaderOutcome, respelledHeader}
+use Rattle.changing.specs.Changing.{changeOutcome, changedRecord}
 use Rattle.desk_records.specs.Records.{tenthsStated, heightStated}
 
 -- `desk_station_code` on a record.

@@ -1,18 +1,18 @@
 // The calls on single records: judged, written in the one spelling, and changed in one value.
 use answers::answer;
+use changing::change_azimuth;
+use changing::change_elevation;
+use changing::change_ground;
+use changing::change_height;
+use changing::change_power;
 use distances::Height;
 use distances::Metres;
 use flaws::flaw_number;
 use formats::Tenths;
-use header_reading::judging::check_header;
+use header_judging::check_header;
 use judging::check_station;
-use rewriting::changing::change_azimuth;
-use rewriting::changing::change_elevation;
-use rewriting::changing::change_ground;
-use rewriting::changing::change_height;
-use rewriting::changing::change_power;
-use rewriting::respelling::respell_header;
-use rewriting::respelling::respell_station;
+use respelling::respell_header;
+use respelling::respell_station;
 use station_flaws::explain_station;
 ghost use mathlib.Core.Path.{_≡_};
 ghost use Rattle.desk_records.specs.Records.{tenthsStated, heightStated};

@@ -10,15 +10,16 @@ use borrow.Author.Tests.{eqb-true}
 use Rattle.basics.specs.Fields.{placeOf}
 use Rattle.basics.specs.Outcomes.{refusal, ifDone}
 use Rattle.basics.specs.declared.Place.{Place}
-use Rattle.files.specs.Files.{placesOf}
-use Rattle.files.specs.Calls.{fileTests, numberTest, fieldTest, showOutcome, shownOffset, shownLength}
+use Rattle.places.specs.Places.{placesOf}
+use Rattle.files.specs.Calls.{fileTests, numberTest}
+use Rattle.showing.specs.Showing.{fieldTest, showOutcome, shownOffset, shownLength}
 use Rattle.basics.specs.Pieces.{StandsAt}
-use Rattle.files.specs.Promises.{FieldShown}
+use Rattle.showing.specs.Promises.{FieldShown}
 use Rattle.basics.proofs.RefusalLaws.{done, none-applies}
 use Rattle.files.proofs.LengthLaws.{whole-records}
-use Rattle.files.proofs.PlaceLaws.{places-tile, place-inside}
-use Rattle.files.proofs.ShowLaws.{shown-there}
-use Rattle.files.proofs.PieceLaws.{shown-length}
+use Rattle.places.proofs.PlaceLaws.{places-tile, place-inside}
+use Rattle.showing.proofs.ShowLaws.{shown-there}
+use Rattle.showing.proofs.PieceLaws.{shown-length}
 use Rattle.desk_sheets.specs.Promises.{FieldLocated}
 
 -- a file of which a field can be shown is not too long

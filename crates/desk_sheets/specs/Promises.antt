@@ -4,7 +4,7 @@ use Prim.Native.Nat.{ℕ}
 use mathlib.Core.Path.{_≡_}
 use mathlib.Core.List.{List}
 use Rattle.basics.specs.Outcomes.{refusal}
-use Rattle.files.specs.Calls.{showOutcome, shownOffset, shownLength}
+use Rattle.showing.specs.Showing.{showOutcome, shownOffset, shownLength}
 use Rattle.sheet.specs.Calls.{judgeOutcome, judgedInto}
 use Rattle.replacing.specs.Calls.{replaceOutcome, replacedFile, replacedSheet, replacedRows}
 use Rattle.verifying.specs.Verifying.{findingOf}

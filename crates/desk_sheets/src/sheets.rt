@@ -1,10 +1,10 @@
 // The calls on files and sheets: judging, replacing, verifying and showing.
 use basics::outcomes::is_done;
 use basics::outcomes::refusal_number;
-use files::showing::field_place;
-use files::showing::show_outcome;
+use places::field_place;
 use replacing::records::replace;
 use sheet::judging::judge;
+use showing::show_outcome;
 use verifying::verifying::Finding;
 use verifying::verifying::verify;
 ghost use Rattle.replacing.specs.Promises.{StillJudged};

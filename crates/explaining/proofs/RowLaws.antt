@@ -11,8 +11,8 @@ use Rattle.forms.specs.Forms.{codeIn}
 use Rattle.forms.specs.OwnForm.{rowIn, twinIn, clashIn, bad, foundIn}
 use Rattle.sheet.specs.Sheets.{judgedSheet, sheetOf}
 use Rattle.printing.specs.Lines.{refusedLine}
-use Rattle.printing.specs.Reports.{lengthOutcome}
-use Rattle.printing.proofs.SheetLaws.{bad-found}
+use Rattle.files.specs.Calls.{lengthOutcome}
+use Rattle.reports.proofs.SheetLaws.{bad-found}
 use Rattle.explaining.specs.Explanations.{explainedLine, rowExplained, sheetExplained, explanationOf}
 
 module _ (file sheet : List ℕ) (i : ℕ) where

@@ -9,7 +9,7 @@ use Rattle.forms.specs.Forms.{codeIn}
 use Rattle.forms.specs.OwnForm.{rowIn, twinIn, clashIn, bad, headIn}
 use Rattle.sheet.specs.Sheets.{sheetOf}
 use Rattle.printing.specs.Lines.{labelled, lineFeed, refusedLine, headerLine, totalLine}
-use Rattle.printing.specs.Reports.{lengthOutcome}
+use Rattle.files.specs.Calls.{lengthOutcome}
 use Rattle.explaining.specs.Words.{reasonText}
 
 -- ` twin T clash H`, the end of a line.

@@ -30,7 +30,7 @@ ghost use Rattle.files.specs.Files.{stations, mostStations};
 ghost use Rattle.forms.specs.Counting.{rows, count};
 ghost use Rattle.forms.specs.OwnForm.{rowWidth, sheetLength, foundIn, bad};
 ghost use Rattle.sheet.specs.Sheets.{sheetOf};
-ghost use Rattle.printing.specs.Reports.{lengthOutcome};
+ghost use Rattle.files.specs.Calls.{lengthOutcome};
 ghost use Rattle.printing.specs.Promises.{Appended};
 ghost use Rattle.explaining.specs.Explanations.{lineEnd, explainedLine, rowExplained, sheetExplained};
 ghost use Rattle.explaining.specs.Promises.{ExplanationWritten};

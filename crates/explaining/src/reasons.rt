@@ -1,9 +1,9 @@
 // What is wrong with a record by its code, in words: the field that the code names, its columns, its bytes, and the flaw.
 use columns::texts::trimmed_length;
 use flaws::Flaw;
+use places::station_place;
 use printing::pieces::put_labelled;
 use printing::pieces::put_text;
-use station::places::station_place;
 use station_flaws::record_flaw;
 ghost use mathlib.Core.Path.{_≡_};
 ghost use mathlib.Core.List.{_++_};

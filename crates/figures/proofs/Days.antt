@@ -4,7 +4,7 @@ use Rattle.columns.specs.Sets.{among, isHex, isNarrow, isText, isName, isMail}
 use Rattle.columns.specs.Texts.{skip, trimmed, every, howMany, each, byteGood, same, oneOf, textGood}
 use Rattle.numerals.specs.Numbers.{leading, numberFrom, wholeDigits, wholeOf, unsigned, signedOf, spellDigits, spellSigned}
 use Rattle.decimals.specs.Decimals.{fractionOf, magnitudeOf, decimalOf, spellMagnitude, spellDecimal}
-use Rattle.days.specs.Dates.{dateRule, dateIn, dateOf, dayGood, dayOf, dateGood, dayFits, spellDate, spellDay}
+use Rattle.days.specs.Dates.{dateRule, dateIn, dateOf, dayGood, dayOf, dateGood, dayFits, spellDate, spellDay, dateFits}
 use Rattle.formats.specs.Tenths.{tenthsGood, tenthsOf, tenthsFit, spellTenths}
 use Rattle.frequencies.specs.Frequencies.{amountGood, unitGood, unitOf, frequencyOf, frequencyFits, unitLetter, spellAmount, spellUnit}
 use Rattle.distances.specs.Distances.{radiusOf, groundOf, heightGood, heightOf, radiusFits, groundFits, heightFits, spellRadius, spellGround, spellHeight}
@@ -28,8 +28,9 @@ use Rattle.serials.specs.Serials.{serialGood, serialOf}
 use Rattle.header.specs.Values.{headerOf}
 use Rattle.header.specs.Rules.{headerRules}
 use Rattle.header.specs.Codes.{headerValue, headerCode, filedHeaderCode}
-use Rattle.files.specs.Files.{stations, recordAt, withRecord, tooLong, notRecords, placesOf, fieldAt, fieldCount}
-use Rattle.files.specs.Calls.{showOutcome, shownField}
+use Rattle.files.specs.Files.{stations, recordAt, withRecord, tooLong, notRecords}
+use Rattle.places.specs.Places.{placesOf, fieldCount}
+use Rattle.showing.specs.Showing.{fieldAt, showOutcome, shownField}
 use Rattle.stations.specs.Stations.{codeAt, referenceAt}
 use Rattle.forms.specs.Forms.{rowAt, badAt, trailerOf, closed, headAt, fitsForm}
 use Rattle.sheet.specs.Sheets.{twinAt, rowOf, judgedSheet, sheetOf}
@@ -38,7 +39,6 @@ use Rattle.mending.specs.Replacing as replacing
 use Rattle.replacing.specs.Calls.{replaceOutcome, replacedSheet, replacedRows}
 use Rattle.basics.specs.Outcomes.{refusal, codeWith, ifDone, firstRefusal}
 use Rattle.station.specs.Calls.{writeOutcome}
-use Rattle.days.specs.Dates.{dateFits}
 use Rattle.figures.specs.Days.{RealDays}
 
 pub real-days : RealDays

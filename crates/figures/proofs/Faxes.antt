@@ -7,8 +7,9 @@ use Rattle.days.specs.Dates.{dateRule, dateIn, dateOf, dayOf, dateGood, spellDa
 use Rattle.serials.specs.Serials.{serialGood, serialOf, spellSerial}
 use Rattle.basics.specs.Rules.{firstBroken}
 use Rattle.basics.specs.Outcomes.{refusal, ifDone, firstRefusal}
-use Rattle.files.specs.Files.{stations, recordAt, tooLong, notRecords, placesOf, fieldAt, fieldCount}
-use Rattle.files.specs.Calls.{showOutcome, shownField}
+use Rattle.files.specs.Files.{stations, recordAt, tooLong, notRecords}
+use Rattle.places.specs.Places.{placesOf, fieldCount}
+use Rattle.showing.specs.Showing.{fieldAt, showOutcome, shownField}
 use Rattle.header.specs.Places.{headerFields}
 use Rattle.header.specs.Rules.{headerRules}
 use Rattle.header.specs.Values.{headerOf}

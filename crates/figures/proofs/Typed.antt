@@ -16,7 +16,7 @@ use Rattle.basics.specs.Rules.{firstBroken}
 use Rattle.station.specs.Places.{fieldsOf}
 use Rattle.station.specs.Rules.{fieldRules, typedRules}
 use Rattle.station.specs.Between.{roundAntenna, betweenRules}
-use Rattle.station.specs.Values.{stationOf}
+use Rattle.station.specs.Values.{stationOf, emptyStation}
 use Rattle.station.specs.Spelling.{stationPieces, spellStation}
 use Rattle.station.specs.Codes.{valueOf, stationCode, typedCode}
 use Rattle.semicolons.specs.Fields.{trimmedField, paddedField}
@@ -28,18 +28,17 @@ use Rattle.serials.specs.Serials.{serialGood, serialOf}
 use Rattle.header.specs.Values.{headerOf}
 use Rattle.header.specs.Rules.{headerRules}
 use Rattle.header.specs.Codes.{headerValue, headerCode, filedHeaderCode}
-use Rattle.files.specs.Files.{stations, recordAt, withRecord, tooLong, notRecords, placesOf, fieldAt, fieldCount}
-use Rattle.files.specs.Calls.{showOutcome, shownField}
+use Rattle.files.specs.Files.{stations, recordAt, withRecord, tooLong, notRecords}
+use Rattle.places.specs.Places.{placesOf, fieldCount}
+use Rattle.showing.specs.Showing.{fieldAt, showOutcome, shownField}
 use Rattle.stations.specs.Stations.{codeAt, referenceAt}
 use Rattle.forms.specs.Forms.{rowAt, badAt, trailerOf, closed, headAt, fitsForm}
 use Rattle.sheet.specs.Sheets.{twinAt, rowOf, judgedSheet, sheetOf}
 use Rattle.mending.specs.Replacing.{touched, mendedRow, writes, rowsWritten}
 use Rattle.mending.specs.Replacing as replacing
 use Rattle.replacing.specs.Calls.{replaceOutcome, replacedSheet, replacedRows}
-use Rattle.basics.specs.Outcomes.{refusal, codeWith, ifDone, firstRefusal}
+use Rattle.basics.specs.Outcomes.{refusal, codeWith, ifDone, firstRefusal, judged}
 use Rattle.station.specs.Calls.{readOutcome, readStation, writeOutcome, writtenStation, setOutcome, setStation}
-use Rattle.station.specs.Values.{emptyStation}
-use Rattle.basics.specs.Outcomes.{judged}
 use Rattle.figures.specs.Typed.{TypedWorked}
 
 pub typed-worked : TypedWorked

@@ -28,8 +28,9 @@ use Rattle.serials.specs.Serials.{serialGood, serialOf}
 use Rattle.header.specs.Values.{headerOf}
 use Rattle.header.specs.Rules.{headerRules}
 use Rattle.header.specs.Codes.{headerValue, headerCode, filedHeaderCode}
-use Rattle.files.specs.Files.{stations, recordAt, withRecord, tooLong, notRecords, placesOf, fieldAt, fieldCount}
-use Rattle.files.specs.Calls.{showOutcome, shownField}
+use Rattle.files.specs.Files.{stations, recordAt, withRecord, tooLong, notRecords}
+use Rattle.places.specs.Places.{placesOf, fieldCount}
+use Rattle.showing.specs.Showing.{fieldAt, showOutcome, shownField}
 use Rattle.stations.specs.Stations.{codeAt, referenceAt, siteAt, positionAt, groundAt}
 use Rattle.forms.specs.Forms.{rowAt, badAt, trailerOf, closed, headAt, lowestAt, foundAt, fitsForm}
 use Rattle.clashes.specs.Clashes.{samePlace, standAlike, clashing, clashAt}

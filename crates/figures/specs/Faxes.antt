@@ -5,7 +5,7 @@ use mathlib.Core.Path.{_≡_}
 use mathlib.Core.List.{List}
 use lib.ListN.{take, drop}
 use Rattle.columns.specs.Texts.{bytes}
-use Rattle.files.specs.Calls.{shownField}
+use Rattle.showing.specs.Showing.{shownField}
 use Rattle.header.specs.Places.{fax}
 use Rattle.header.specs.Spelling.{spellHeader}
 use Rattle.header.specs.Codes.{headerValue, headerCode}

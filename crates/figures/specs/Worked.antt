@@ -11,7 +11,7 @@ use Rattle.semicolons.specs.Lines.{lineOf}
 use Rattle.lists.specs.Calls.{lineOutcome, stationInLine}
 use Rattle.header.specs.Values.{headerOf}
 use Rattle.header.specs.Codes.{headerCode, filedHeaderCode}
-use Rattle.files.specs.Calls.{showOutcome, shownField}
+use Rattle.showing.specs.Showing.{showOutcome, shownField}
 use Rattle.sheet.specs.Sheets.{sheetOf}
 use Rattle.replacing.specs.Calls.{replacedSheet, replacedRows}
 use Rattle.verifying.specs.Verifying.{findingOf}

@@ -1,19 +1,10 @@
 -- The promises of the calls on files leave one answer.
-use mathlib.Core.Path.{_≡_, sym, ap, _∙_}
-use mathlib.Core.Bool.{true}
+use mathlib.Core.Path.{_≡_, sym, _∙_}
 use mathlib.Core.List.{List}
-use Prim.Native.Nat.{ℕ, _+_, _-_, _*_, _≤_}
-use native.Mathlib.Omega.{arith}
+use Prim.Native.Nat.{ℕ}
 use denote.Ref.{RefT, ptr, now}
-use Rattle.basics.specs.Fields.{placeOf}
 use Rattle.basics.specs.declared.Outcome.{Outcome}
-use Rattle.basics.specs.declared.Place.{Place}
-use Rattle.files.specs.Files.{placesOf}
-use Rattle.files.specs.Calls.{showOutcome, shownOffset}
-use Rattle.files.specs.Promises.{FileChecked, StationsCounted, RecordFound, FieldPlaced, ShowJudged, FieldShown}
-use Rattle.basics.proofs.RefusalLaws.{done}
-use Rattle.files.proofs.PlaceLaws.{not-header}
-use Rattle.files.proofs.PieceLaws.{shown-begins}
+use Rattle.files.specs.Promises.{FileChecked, StationsCounted, RecordFound}
 
 -- Two answers of `check_file` to one file are equal,
 pub one-check : (file : List ℕ) (a b : Outcome) → FileChecked file a → FileChecked file b → a ≡ b
@@ -23,29 +14,6 @@ one-check file a b p q = p ∙ sym q
 pub one-count : (file : List ℕ) (a b : ℕ) → StationsCounted file a → StationsCounted file b → a ≡ b
 one-count file a b p q = p ∙ sym q
 
--- of `record_in`: the same bytes at the same place,
+-- and of `record_in`: the same bytes at the same place.
 pub one-record : (file : RefT (List ℕ)) (k : ℕ) (a b : RefT (List ℕ)) → RecordFound file k a → RecordFound file k b → (ptr a ≡ ptr b) × (now a ≡ now b)
 one-record file k a b p q = (p .1 ∙ sym (q .1), p .0 ∙ sym (q .0))
-
--- of `field_place`,
-pub one-place : (k j : ℕ) (a b : Place) → FieldPlaced k j a → FieldPlaced k j b → a ≡ b
-one-place k j a b p q = p ∙ sym q
-
--- of `show_outcome`,
-pub one-show-outcome : (file : List ℕ) (k j : ℕ) (a b : Outcome) → ShowJudged file k j a → ShowJudged file k j b → a ≡ b
-one-show-outcome file k j a b p q = p ∙ sym q
-
--- and of `show`: the same bytes at the same place.
-pub one-show : (file : RefT (List ℕ)) (k j : ℕ) (a b : RefT (List ℕ)) → FieldShown file k j a → FieldShown file k j b → (ptr a ≡ ptr b) × (now a ≡ now b)
-one-show file k j a b p q = (p .1 ∙ sym (q .1), p .0 ∙ sym (q .0))
-
--- A piece that is shown for a station is shown for no other, whatever bytes the other has in that field.
-pub no-other-station : (file : RefT (List ℕ)) (k m j : ℕ) (a : RefT (List ℕ)) → 1 ≤ k → 1 ≤ m → done (showOutcome (now file) k j) ≡ true → done (showOutcome (now file) m j) ≡ true
-    → FieldShown file k j a → FieldShown file m j a → k ≡ m
-no-other-station file k m j a lk lm tk tm p q =
-    let column : ℕ → ℕ = λ (n : ℕ). placeOf (placesOf n) j .first - 1 in
-    let one : column k ≡ column m = rw (not-header k (λ (e : k ≡ 0). omega (arith, e, lk)), not-header m (λ (e : m ≡ 0). omega (arith, e, lm))) in
-    let together : ptr file .1 + shownOffset (now file) k j ≡ ptr file .1 + shownOffset (now file) m j = ap (λ (w : ℕ × ℕ). w .1) (sym (p .1) ∙ q .1) in
-    let atk : 219 * k + column k ≡ shownOffset (now file) k j = shown-begins (now file) k j tk in
-    let atm : 219 * m + column m ≡ shownOffset (now file) m j = shown-begins (now file) m j tm in
-    omega (arith, one, together, atk, atm)

@@ -1,37 +1,20 @@
--- Document 01, "Refusal numbers": what every call on a file asks of it first, and how showing ends.
-use Prim.Native.Nat.{ℕ, _+_, _-_, _*_}
-use mathlib.Core.Bool.{_||_}
-use mathlib.Core.List.{List, [], _∷_, _++_}
-use lib.Dec.{ltb, eqb}
-use Rattle.basics.specs.Fields.{recordLength, placeOf}
-use Rattle.basics.specs.Outcomes.{ifDone, Test, when, firstRefusal}
+-- Document 01, "Refusal numbers": what every call on a file asks of it first.
+use Prim.Native.Nat.{ℕ}
+use mathlib.Core.List.{List, [], _∷_}
+use lib.Dec.{ltb}
+use Rattle.basics.specs.Outcomes.{Test, when, firstRefusal}
 use Rattle.basics.specs.declared.Outcome.{Outcome}
 use Rattle.basics.specs.declared.Outcome.the-variants as outcome
-use Rattle.files.specs.Files.{stations, tooLong, notRecords, placesOf, fieldAt, fieldCount}
+use Rattle.files.specs.Files.{stations, tooLong, notRecords}
 
 -- What every call on a file asks first: its length. Where it is wrong, 1 and 2 settle the call.
 abbrev pub fileTests : List ℕ → List Test
 fileTests file = when (tooLong file) outcome.FileTooLong ∷ when (notRecords file) outcome.FileNotRecords ∷ []
 
+-- How a call ends that asks nothing else.
+abbrev pub lengthOutcome : List ℕ → Outcome
+lengthOutcome file = firstRefusal (fileTests file)
+
 -- The record's number is above n.
 abbrev pub numberTest : List ℕ → ℕ → Test
 numberTest file k = when (ltb (stations file) k) outcome.NoSuchRecord
-
--- The record has no such field.
-abbrev pub fieldTest : ℕ → ℕ → Test
-fieldTest k j = when (eqb j 0 || ltb (fieldCount k) j) outcome.NoSuchField
-
--- Showing uses 1, 2, 5 and 8.
-unfoldable pub showOutcome : List ℕ → ℕ → ℕ → Outcome
-showOutcome file k j = firstRefusal (fileTests file ++ (numberTest file k ∷ fieldTest k j ∷ []))
-
--- It answers the piece of the file that holds the field, and an empty one on a refusal.
-unfoldable pub shownField : List ℕ → ℕ → ℕ → List ℕ
-shownField file k j = ifDone (showOutcome file k j) (fieldAt file k j) []
-
--- Where it begins in the file, and how long it is; both 0 on a refusal.
-unfoldable pub shownOffset : List ℕ → ℕ → ℕ → ℕ
-shownOffset file k j = ifDone (showOutcome file k j) (recordLength * k + (placeOf (placesOf k) j .first - 1)) 0
-
-unfoldable pub shownLength : List ℕ → ℕ → ℕ → ℕ
-shownLength file k j = ifDone (showOutcome file k j) (placeOf (placesOf k) j .length) 0

@@ -1,4 +1,3 @@
-// Files of records: their length, their records, and showing a field.
+// Files of records: their length, and their records.
 
 pub mod lengths;
-pub mod showing;

@@ -1,5 +1,4 @@
 pub mod CutLaws
 pub mod PartLaws
 pub mod HoldLaws
-pub mod FilingLaws
 pub mod Unique

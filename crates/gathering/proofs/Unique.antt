@@ -1,9 +1,8 @@
--- The promises of the calls on a gathered line leave one answer, and one content of the lent bytes.
+-- The promises of the calls that gather a line leave one answer, and one content of the lent bytes.
 use mathlib.Core.Path.{_≡_, sym, _∙_}
 use mathlib.Core.List.{List}
 use Prim.Native.Nat.{ℕ}
-use Rattle.basics.specs.declared.Outcome.{Outcome}
-use Rattle.gathering.specs.Promises.{LineEnded, Begun, GoneOn, GatheredFiled}
+use Rattle.gathering.specs.Promises.{LineEnded, Begun, GoneOn}
 use Rattle.gathering.specs.declared.Gathered.{Gathered}
 
 -- Two answers of `line_end` to one text are equal.
@@ -17,7 +16,3 @@ one-begun a b p q = p ∙ sym q
 -- Two answers of `gather` to one part, beside one buffer, are equal, and so is what they leave there.
 pub one-gone-on : (before : List ℕ) (g : Gathered) (part : List ℕ) (a b : Gathered) (x y : List ℕ) → GoneOn before g part a x → GoneOn before g part b y → (a ≡ b) × (x ≡ y)
 one-gone-on before g part a b x y p q = (p .0 ∙ sym (q .0), p .1 ∙ sym (q .1))
-
--- Two answers of `file_gathered` to one line and one buffer are equal, and so is what they leave there.
-pub one-gathered-filed : (buffer : List ℕ) (g : Gathered) (before : List ℕ) (a b : Outcome) (x y : List ℕ) → GatheredFiled buffer g before a x → GatheredFiled buffer g before b y → (a ≡ b) × (x ≡ y)
-one-gathered-filed buffer g before a b x y p q = (p .0 ∙ sym (q .0), p .1 ∙ sym (q .1))

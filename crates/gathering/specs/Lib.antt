@@ -1,4 +1,3 @@
 pub mod Cutting
 pub mod Gathering
-pub mod Calls
 pub mod Promises

@@ -1,12 +1,10 @@
--- What the calls on a gathered line promise, as relations between what they are given, their answer and what they leave in the lent bytes.
+-- What the calls that gather a line promise, as relations between what they are given, their answer and what they leave in the lent bytes.
 use Prim.Native.Nat.{ℕ}
 use mathlib.Core.Path.{_≡_}
 use mathlib.Core.List.{List, []}
 use lib.ListN.{length}
-use Rattle.basics.specs.declared.Outcome.{Outcome}
 use Rattle.gathering.specs.Cutting.{firstLine}
 use Rattle.gathering.specs.Gathering.{keptOf, keptWith, holding}
-use Rattle.gathering.specs.Calls.{gatheredFiling, filedGathered}
 use Rattle.gathering.specs.declared.Gathered.{Gathered}
 
 -- `line_end` of a text: how many bytes its first line has.
@@ -20,7 +18,3 @@ Begun answer = answer ≡ keptOf []
 -- `gather` of a part: what is kept then, and what the buffer holds.
 abbrev pub GoneOn : List ℕ → Gathered → List ℕ → Gathered → List ℕ → Type 0
 GoneOn before g part answer after = (answer ≡ keptWith before g part) × (after ≡ holding before (g .held) part)
-
--- `file_gathered` into 219 lent bytes: how it ends, and what they hold after it.
-abbrev pub GatheredFiled : List ℕ → Gathered → List ℕ → Outcome → List ℕ → Type 0
-GatheredFiled buffer g before answer after = (answer ≡ gatheredFiling buffer g before) × (after ≡ filedGathered buffer g before)

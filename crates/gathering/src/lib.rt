@@ -3,7 +3,6 @@
 
 pub mod cutting;
 pub mod lines;
-pub mod records;
 mod sums;
 
 // What is kept of a line beside its first bytes: how many of them the buffer holds, how many semicolons and line feeds the

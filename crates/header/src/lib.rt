@@ -2,8 +2,6 @@
 use days::dates::Day;
 use serials::Serial;
 
-pub mod empty;
-pub mod places;
 pub mod typed;
 
 // The header of a file, field by field; the fax is judged in its record and not kept.

@@ -1,18 +1,9 @@
--- The promises of the calls on a header's record leave one answer.
+-- The promise of reading a header's record leaves one answer.
 use mathlib.Core.Path.{_≡_, sym, _∙_}
 use mathlib.Core.List.{List}
 use Prim.Native.Nat.{ℕ}
-use Rattle.basics.specs.declared.Outcome.{Outcome}
-use Rattle.header_reading.specs.Promises.{HeaderChecked, HeaderFiled, HeaderRead}
-use Rattle.header_reading.specs.declared.typed.ReadHeader.{ReadHeader}
-
--- Two answers of `check_header` to one record are equal.
-pub one-check : (r : List ℕ) (a b : Outcome) → HeaderChecked r a → HeaderChecked r b → a ≡ b
-one-check r a b p q = p ∙ sym q
-
--- Two answers of `check_filed_header` to one record and one count of stations are equal.
-pub one-filed-check : (r : List ℕ) (n : ℕ) (a b : Outcome) → HeaderFiled r n a → HeaderFiled r n b → a ≡ b
-one-filed-check r n a b p q = p ∙ sym q
+use Rattle.header_reading.specs.Promises.{HeaderRead}
+use Rattle.header_reading.specs.declared.ReadHeader.{ReadHeader}
 
 -- Two answers of `read_header` to one record are equal.
 pub one-reading : (r : List ℕ) (a b : ReadHeader) → HeaderRead r a → HeaderRead r b → a ≡ b

@@ -1,7 +1,7 @@
 // Lists out: reads a filing file from standard input and prints its stations as lines of a semicolon list.
 use files::lengths::MOST_BYTES;
 use intake::read_input;
-use printing::listing::write_list;
+use listing::write_list;
 ghost use mathlib.Core.Path.{_≡_};
 ghost use Prim.Native.Nat.{_+_, _*_};
 ghost use lib.ListN.{length};

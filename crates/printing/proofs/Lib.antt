@@ -1,10 +1,5 @@
 pub mod AppendLaws
 pub mod LineLaws
-pub mod SheetLaws
-pub mod ReportLaws
-pub mod ListLaws
-pub mod ListLines
-pub mod ListBack
+pub mod WriteLaws
 pub mod Unique
 pub mod Plain
-pub mod Worked

@@ -1,6 +1,4 @@
-// What the programs print: the report of a file, and its list.
+// What every program prints with: pieces of a line, and the lines that reports, lists and explanations share.
 
 pub mod lines;
-pub mod listing;
 pub mod pieces;
-pub mod reports;

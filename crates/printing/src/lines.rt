@@ -26,14 +26,7 @@ pub fn put_header(out: &mut [u8], start: usize, code: u8) -> usize
 }
 
 // Puts in `station K code C twin T clash H`, and answers where it ends.
-pub(crate) fn put_station(
-    out: &mut [u8],
-    start: usize,
-    k: u16,
-    code: u8,
-    twin: u16,
-    clash: u16,
-) -> usize
+pub fn put_bad_row(out: &mut [u8], start: usize, k: u16, code: u8, twin: u16, clash: u16) -> usize
     requires { ⌜ start + 40 ≤ length (now out) ⌝ }
     ensures { λ r. ⌜ Appended (now (out .entry)) start (stationLine k code twin clash) (now (out .exit)) r ⌝ }
     ensures { λ r. ⌜ r ≤ start + 40 ⌝ }

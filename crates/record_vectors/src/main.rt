@@ -26,7 +26,7 @@ fn put_code(code: u8) {
 
 // A header's record.
 fn read_header(s: &[u8]) {
-    let read = header_reading::typed::read_header(s);
+    let read = header_reading::read_header(s);
     let outcome = read.outcome;
     put_outcome(outcome);
 }
@@ -38,7 +38,7 @@ fn answer(kind: u8, s: &[u8]) {
     match kind {
         b'S' => put_outcome(judging::check_station(s)),
         b'H' => read_header(s),
-        b'h' => put_outcome(header_reading::judging::check_filed_header(s, 2)),
+        b'h' => put_outcome(header_judging::check_filed_header(s, 2)),
         _ => put(b" no such kind\n"),
     }
 }

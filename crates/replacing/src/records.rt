@@ -4,7 +4,7 @@ use basics::outcomes::is_done;
 use files::lengths::RECORD_LENGTH;
 use files::lengths::stations_in;
 use forms::readers::head_code;
-use header_reading::judging::filed_header_code;
+use header_judging::filed_header_code;
 use mending::rows::mend_rows;
 use sheet::judging::judge_outcome;
 use sheet::trailers::fits_trailer;

@@ -11,7 +11,7 @@ use files::lengths::record_in;
 use files::lengths::stations_in;
 use forms::form::ROW_WIDTH;
 use forms::form::TRAILER_LENGTH;
-use header_reading::judging::filed_header_code;
+use header_judging::filed_header_code;
 ghost use mathlib.Core.Path.{_≡_};
 ghost use mathlib.Core.List.{_++_};
 ghost use Prim.Native.Nat.{_*_};

@@ -1,18 +1,13 @@
--- The promises of the calls on typed stations and on their places leave one answer.
+-- The promises of the calls on typed stations leave one answer.
 use mathlib.Core.Path.{_≡_, sym, _∙_}
 use Prim.Native.Nat.{ℕ}
 use Rattle.formats.specs.declared.Tenths.{Tenths}
 use Rattle.distances.specs.declared.Metres.{Metres}
 use Rattle.distances.specs.declared.Height.{Height}
-use Rattle.basics.specs.declared.Place.{Place}
 use Rattle.station.specs.Setting.{withPower, withAzimuth, withElevation, withHeight, withGround}
-use Rattle.station.specs.Promises.{StationPlaced, StationJudged, StationSet, PowerSet, AzimuthSet, ElevationSet, HeightSet, GroundSet, StationEmpty}
+use Rattle.station.specs.Promises.{StationJudged, StationSet, PowerSet, AzimuthSet, ElevationSet, HeightSet, GroundSet}
 use Rattle.station.specs.declared.Station.{Station}
 use Rattle.station.specs.declared.setting.Settled.{Settled}
-
--- Two answers of `station_place` to one number are equal.
-pub one-place : (k : ℕ) (a b : Place) → StationPlaced k a → StationPlaced k b → a ≡ b
-one-place k a b p q = p ∙ sym q
 
 -- Two answers of `typed_code` to one station are equal.
 pub one-code : (s : Station) (a b : ℕ) → StationJudged s a → StationJudged s b → a ≡ b
@@ -41,7 +36,3 @@ one-height s v = one-setting s (withHeight s v)
 -- and `set_ground` one.
 pub one-ground : (s : Station) (v : Metres) (a b : Settled) → GroundSet s v a → GroundSet s v b → a ≡ b
 one-ground s v = one-setting s (withGround s v)
-
--- There is one empty station.
-pub one-empty : (a b : Station) → StationEmpty a → StationEmpty b → a ≡ b
-one-empty a b p q = p ∙ sym q

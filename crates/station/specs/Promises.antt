@@ -1,22 +1,14 @@
--- What the calls on typed stations and on their places promise, as relations between what they are given and their answer.
+-- What the calls on typed stations promise, as relations between what they are given and their answer.
 use Prim.Native.Nat.{ℕ}
 use mathlib.Core.Path.{_≡_}
 use Rattle.formats.specs.declared.Tenths.{Tenths}
 use Rattle.distances.specs.declared.Metres.{Metres}
 use Rattle.distances.specs.declared.Height.{Height}
-use Rattle.basics.specs.Fields.{placeOf}
-use Rattle.basics.specs.declared.Place.{Place}
-use Rattle.station.specs.Places.{stationPlaces}
-use Rattle.station.specs.Values.{emptyStation}
 use Rattle.station.specs.Codes.{typedCode}
 use Rattle.station.specs.Calls.{setOutcome, setStation}
 use Rattle.station.specs.Setting.{withPower, withAzimuth, withElevation, withHeight, withGround}
 use Rattle.station.specs.declared.Station.{Station}
 use Rattle.station.specs.declared.setting.Settled.{Settled}
-
--- `station_place` of a number: the place of that field.
-abbrev pub StationPlaced : ℕ → Place → Type 0
-StationPlaced k answer = answer ≡ placeOf stationPlaces k
 
 -- `typed_code` on a station: the first rule that it breaks.
 abbrev pub StationJudged : Station → ℕ → Type 0
@@ -45,7 +37,3 @@ HeightSet s v answer = StationSet s (withHeight s v) answer
 -- `set_ground`, 9Y
 abbrev pub GroundSet : Station → Metres → Settled → Type 0
 GroundSet s v answer = StationSet s (withGround s v) answer
-
--- `empty_station`: the station that a refused reading hands back.
-abbrev pub StationEmpty : Station → Type 0
-StationEmpty answer = answer ≡ emptyStation

@@ -8,8 +8,6 @@ use frequencies::Frequency;
 use positions::Position;
 
 pub mod between;
-pub mod empty;
-pub mod places;
 pub mod setting;
 pub mod typed;
 

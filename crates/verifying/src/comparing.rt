@@ -3,7 +3,7 @@ use clashes::CODES;
 use clashes::UNJUDGED;
 use files::lengths::record_in;
 use forms::form::ROW_WIDTH;
-use header_reading::judging::filed_header_code;
+use header_judging::filed_header_code;
 use sheet::rows::station_row;
 use sheet::trailers::standing_trailer;
 ghost use mathlib.Core.Path.{_≡_};

@@ -6,7 +6,7 @@ use Prim.Native.Nat.{ℕ, _-_}
 use Rattle.basics.specs.Outcomes.{refusal}
 use Rattle.basics.specs.declared.Outcome.{Outcome}
 use Rattle.forms.specs.Counting.{rows}
-use Rattle.printing.proofs.ReportLaws.{written}
+use Rattle.printing.proofs.WriteLaws.{written}
 use Rattle.operator_pages.specs.Calls.{rowsFor, rowAt}
 use Rattle.operator_pages.proofs.PageLaws.{rows-fit}
 use Rattle.operator_lines.proofs.PageLines.{answer-is, same-texts}

@@ -1,7 +1,7 @@
 -- `explain::main` is safe and ends: what it writes is within what the explanation was written into.
 use mathlib.Core.Path.{sym}
 use lib.Seq.{length-take-le}
-use Rattle.printing.proofs.ReportLaws.{within}
+use Rattle.printing.proofs.WriteLaws.{within}
 use borrow.Author.Needs.{needs}
 use Rattle.explain.proofs.main.Statement.{statement}
 use Rattle.explain.proofs.main.Tie as tie

@@ -2,7 +2,7 @@
 use denote.Ref.{now}
 use mathlib.Core.Path.{sym}
 use lib.Seq.{length-take-le}
-use Rattle.printing.proofs.ReportLaws.{few}
+use Rattle.printing.proofs.WriteLaws.{few}
 use Rattle.forms.specs.OwnForm.{sheetLength}
 use native.Mathlib.Omega.{arith}
 use borrow.Author.Needs.{needs}

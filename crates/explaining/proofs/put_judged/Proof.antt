@@ -1,7 +1,7 @@
 -- `explaining::put_judged` meets its contract: the sheet that is judged is the file's, and its trailer has the number of its bad rows.
 use denote.Ref.{now}
-use Rattle.printing.proofs.SheetLaws.{sized-so}
-use Rattle.printing.proofs.ReportLaws.{few}
+use Rattle.reports.proofs.SheetLaws.{sized-so}
+use Rattle.printing.proofs.WriteLaws.{few}
 use native.Mathlib.Omega.{arith}
 use Rattle.files.proofs.LengthLaws.{length-passed, whole-records}
 use Rattle.explaining.proofs.RowLaws.{judged-lines}

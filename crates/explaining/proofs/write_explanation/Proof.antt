@@ -5,8 +5,8 @@ use Prim.Native.Nat.{ℕ}
 use Rattle.basics.specs.Outcomes.{refusal}
 use Rattle.basics.specs.declared.Outcome.{Outcome}
 use Rattle.printing.specs.Lines.{refusedLine}
-use Rattle.printing.specs.Reports.{lengthOutcome}
-use Rattle.printing.proofs.ReportLaws.{turned-away, taken, written}
+use Rattle.files.specs.Calls.{lengthOutcome}
+use Rattle.printing.proofs.WriteLaws.{turned-away, taken, written}
 use Rattle.explaining.proofs.RowLaws.{refused-file, whole-file}
 use borrow.Author.Needs.{needs}
 use Rattle.explaining.proofs.write_explanation.Statement.{statement}

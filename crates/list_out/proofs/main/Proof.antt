@@ -1,7 +1,7 @@
 -- `list_out::main` is safe and ends: what it writes is within what the list was written into.
 use mathlib.Core.Path.{sym}
 use lib.Seq.{length-take-le}
-use Rattle.printing.proofs.ReportLaws.{within}
+use Rattle.printing.proofs.WriteLaws.{within}
 use borrow.Author.Needs.{needs}
 use Rattle.list_out.proofs.main.Statement.{statement}
 use Rattle.list_out.proofs.main.Tie as tie

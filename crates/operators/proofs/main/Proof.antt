@@ -1,7 +1,7 @@
 -- `operators::main` is safe and ends: what it writes is within what the page was written into.
 use mathlib.Core.Path.{sym}
 use lib.Seq.{length-take-le}
-use Rattle.printing.proofs.ReportLaws.{within}
+use Rattle.printing.proofs.WriteLaws.{within}
 use borrow.Author.Needs.{needs}
 use Rattle.operators.proofs.main.Statement.{statement}
 use Rattle.operators.proofs.main.Tie as tie

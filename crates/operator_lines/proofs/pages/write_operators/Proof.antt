@@ -4,7 +4,7 @@ use mathlib.Core.Path.{_≡_, sym, ap, _∙_}
 use Prim.Native.Nat.{ℕ}
 use Rattle.basics.proofs.RefusalLaws.{went-on, stopped}
 use Rattle.printing.specs.Lines.{refusedLine}
-use Rattle.printing.proofs.ReportLaws.{written}
+use Rattle.printing.proofs.WriteLaws.{written}
 use Rattle.operator_counts.specs.Counts.{operators}
 use Rattle.operator_pages.proofs.PageLaws.{rows-fit}
 use Rattle.operator_lines.proofs.PageLines.{answer-is, refused-lines, whole-lines}

@@ -1,0 +1,2 @@
+pub mod FilingLaws
+pub mod Unique

@@ -1,0 +1,5 @@
+pub mod RowLaws
+pub mod SheetLaws
+pub mod ReportLaws
+pub mod Unique
+pub mod Worked

@@ -1,0 +1,2 @@
+pub mod RespellLaws
+pub mod Unique

@@ -1,3 +1,0 @@
-pub mod RespellLaws
-pub mod ChangeLaws
-pub mod Unique

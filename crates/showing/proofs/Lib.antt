@@ -1,0 +1,3 @@
+pub mod ShowLaws
+pub mod PieceLaws
+pub mod Unique
