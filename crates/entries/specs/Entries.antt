@@ -32,13 +32,20 @@ eitherEntry low high p = oneOfSet (letterOf (low % 256 ∷ high % 256 ∷ [])) p
 unfoldable pub unitEntry : List ℕ → Flaw
 unitEntry p = oneOfSet (among "kMG ") p
 
--- By the number of the kind, on the entry's length, lowest and highest. Digit counts come from the length; the first seven may be blank of themselves.
+-- A decimal has its digits before the point by its length: two in four columns, or in five with a sign, and else three.
+abbrev pub plainDecimal : ℕ → ℕ → ℕ → List ℕ → Flaw
+plainDecimal w low high p = decimalEntry (cond (eqb w 4) format.Gain format.Azimuth) low high p
+
+abbrev pub signedDecimal : ℕ → ℕ → ℕ → List ℕ → Flaw
+signedDecimal w low high p = decimalEntry (cond (eqb w 5) format.Elevation format.Power) low high p
+
+-- By the number of the kind, on the entry's length, lowest and highest. The first seven may be blank of themselves.
 abbrev pub kinds : List (ℕ → ℕ → ℕ → List ℕ → Flaw)
 kinds =
     (λ w low high p. flawAt 26 [] p) ∷  -- 0 13Z
     (λ w low high p. decimalEntry format.Frequency low high p) ∷  -- 1 a frequency without its unit
-    (λ w low high p. decimalEntry (cond (eqb w 4) format.Gain format.Azimuth) low high p) ∷  -- 2 a decimal without a sign
-    (λ w low high p. decimalEntry (cond (eqb w 5) format.Elevation format.Power) low high p) ∷  -- 3 a decimal with a sign
+    plainDecimal ∷  -- 2 a decimal without a sign
+    signedDecimal ∷  -- 3 a decimal with a sign
     (λ w low high p. heightEntry low high p) ∷  -- 4 a whole number with a sign
     (λ w low high p. flawAt 8 [] p) ∷  -- 5 a date
     (λ w low high p. unitEntry p) ∷  -- 6 a unit
