@@ -1,0 +1,162 @@
+// Judging a record by any two tables: one loop over the entries of its fields, one over the rows that bind fields together.
+pub mod facts;
+pub mod parts;
+
+use crate::facts::is_fact;
+use crate::parts::piece;
+use entries::entry_flaw;
+use flaws::Flaw;
+use number_flaws::range_flaw;
+ghost use mathlib.Core.Path.{_≡_};
+ghost use mathlib.Core.List.{[]};
+ghost use Prim.Native.Nat.{_<_};
+ghost use lib.ListN.{length, getD};
+ghost use Rattle.basics.specs.Rules.{firstBroken};
+ghost use Rattle.flaws.specs.Flaws.{flawless};
+ghost use Rattle.flaws.specs.Parts.{flawWith};
+ghost use Rattle.flaws.proofs.SplitLaws.{flawlessAll};
+ghost use Rattle.walking.specs.Walks.{fieldBehind, standsBy, keptBy, firstRow, flawBehind, flawsBy, codeBy};
+
+// What a walk found: the first broken code, 0 where none is, and its flaw.
+pub struct Found {
+    pub code: usize,
+    pub flaw: Flaw,
+}
+
+// Field i of a record, counted from 0.
+fn field_behind<'a>(entries: &[[usize; 6]], rec: &'a [u8], i: usize) -> &'a [u8]
+    requires { ⌜ i < length (now entries) ⌝ }
+    ensures { λ r. ⌜ now r ≡ fieldBehind (now (entries .entry)) (now (rec .entry)) i ⌝ }
+{
+    let first = entries[i][0];
+    let n = entries[i][1];
+    piece(rec, first, n)
+}
+
+// Whether a fact of field number k stands, or does not, as it is wanted.
+fn stands(entries: &[[usize; 6]], rec: &[u8], fact: usize, k: usize, want: usize) -> bool
+    ensures { λ r. ⌜ r ≡ standsBy (now (entries .entry)) (now (rec .entry)) fact k want ⌝ }
+{
+    if k == 0 {
+        return false;
+    }
+    if entries.len() < k {
+        return false;
+    }
+    let told = is_fact(fact, field_behind(entries, rec, k - 1));
+    if want == 1 { told } else { !told }
+}
+
+// Whether row j is kept: its code is not asked for, or its two facts do not stand together.
+fn is_kept(entries: &[[usize; 6]], rows: &[[usize; 7]], rec: &[u8], low: usize, high: usize, j: usize) -> bool
+    requires { ⌜ j < length (now rows) ⌝ }
+    ensures { λ r. ⌜ r ≡ keptBy (now (entries .entry)) (now (rec .entry)) low high (getD (now (rows .entry)) j []) ⌝ }
+{
+    let code = rows[j][0];
+    let fact = rows[j][1];
+    let field = rows[j][2];
+    let want = rows[j][3];
+    let other = rows[j][4];
+    let second = rows[j][5];
+    let wish = rows[j][6];
+    if code < low {
+        return true;
+    }
+    if high < code {
+        return true;
+    }
+    if !stands(entries, rec, fact, field, want) {
+        return true;
+    }
+    !stands(entries, rec, other, second, wish)
+}
+
+// The code of the first row that is broken, of those from low to high; 0 where none is.
+fn first_row(entries: &[[usize; 6]], rows: &[[usize; 7]], rec: &[u8], low: usize, high: usize) -> usize
+    ensures { λ r. ⌜ r ≡ firstRow (now (entries .entry)) (now (rec .entry)) low high (now (rows .entry)) ⌝ }
+{
+    let mut j: usize = 0;
+    while j < rows.len() {
+        if !is_kept(entries, rows, rec, low, high, j) {
+            return rows[j][0];
+        }
+        j += 1;
+    }
+    0
+}
+
+// Whether nothing is wrong.
+fn is_flawless(flaw: Flaw) -> bool
+    ensures { λ r. ⌜ r ≡ flawless flaw ⌝ }
+{
+    match flaw {
+        Flaw::None => true,
+        Flaw::Byte => false,
+        Flaw::Range => false,
+        Flaw::Shape => false,
+        Flaw::Between => false,
+    }
+}
+
+// The flaw of field i, counted from 0; a unit that is at odds with its frequency, by a row of its code, is outside its range.
+fn flaw_behind(entries: &[[usize; 6]], rows: &[[usize; 7]], rec: &[u8], i: usize) -> Flaw
+    requires { ⌜ i < length (now entries) ⌝ }
+    ensures { λ r. ⌜ r ≡ flawBehind (now (entries .entry)) (now (rec .entry)) (now (rows .entry)) i ⌝ }
+{
+    let w = entries[i][1];
+    let kind = entries[i][2];
+    let low = entries[i][3];
+    let high = entries[i][4];
+    let allowed = entries[i][5];
+    let said = entry_flaw(kind, w, low, high, allowed, field_behind(entries, rec, i));
+    if kind != 6 {
+        return said;
+    }
+    if !is_flawless(said) {
+        return said;
+    }
+    let k = i + 1;
+    range_flaw(first_row(entries, rows, rec, k, k) == 0)
+}
+
+// The first field that has a flaw, counted from 1, and the flaw.
+fn first_flaw(entries: &[[usize; 6]], rows: &[[usize; 7]], rec: &[u8]) -> Found
+    ensures { λ r. ⌜ (r .code ≡ firstBroken 1 (flawlessAll (flawsBy (now (entries .entry)) (now (rec .entry)) (now (rows .entry)))))
+        × (r .flaw ≡ flawWith (flawsBy (now (entries .entry)) (now (rec .entry)) (now (rows .entry))) (r .code)) ⌝ }
+{
+    let mut i: usize = 0;
+    while i < entries.len() {
+        let flaw = flaw_behind(entries, rows, rec, i);
+        if !is_flawless(flaw) {
+            return Found {
+                code: 1 + i,
+                flaw,
+            };
+        }
+        i += 1;
+    }
+    Found {
+        code: 0,
+        flaw: Flaw::None,
+    }
+}
+
+// The first broken code of a record by two tables, and its flaw: the fields, and where none is broken the rows of higher codes.
+pub fn walk(entries: &[[usize; 6]], rows: &[[usize; 7]], rec: &[u8]) -> Found
+    ensures { λ r. ⌜ (r .code ≡ codeBy (now (entries .entry)) (now (rec .entry)) (now (rows .entry)))
+        × (r .flaw ≡ flawWith (flawsBy (now (entries .entry)) (now (rec .entry)) (now (rows .entry))) (r .code)) ⌝ }
+{
+    let found = first_flaw(entries, rows, rec);
+    if found.code != 0 {
+        return found;
+    }
+    let from = entries.len();
+    let code = first_row(entries, rows, rec, from + 1, 255);
+    if code == 0 {
+        return found;
+    }
+    Found {
+        code,
+        flaw: Flaw::Between,
+    }
+}
