@@ -15,7 +15,8 @@ ghost use Rattle.basics.specs.Rules.{firstBroken};
 ghost use Rattle.flaws.specs.Flaws.{flawless};
 ghost use Rattle.flaws.specs.Parts.{flawWith};
 ghost use Rattle.flaws.proofs.SplitLaws.{flawlessAll};
-ghost use Rattle.walking.specs.Walks.{fieldBehind, standsBy, keptBy, firstRow, flawBehind, flawsBy, codeBy};
+ghost use Rattle.walking.specs.Walks.{fieldBehind, standsBy, keptBy, firstRow, flawBehind, flawsBy};
+ghost use Rattle.walking.specs.Promises.{Walked};
 
 // What a walk found: the first broken code, 0 where none is, and its flaw.
 pub struct Found {
@@ -143,8 +144,7 @@ fn first_flaw(entries: &[[usize; 6]], rows: &[[usize; 7]], rec: &[u8]) -> Found
 
 // The first broken code of a record by two tables, and its flaw: the fields, and where none is broken the rows of higher codes.
 pub fn walk(entries: &[[usize; 6]], rows: &[[usize; 7]], rec: &[u8]) -> Found
-    ensures { λ r. ⌜ (r .code ≡ codeBy (now (entries .entry)) (now (rec .entry)) (now (rows .entry)))
-        × (r .flaw ≡ flawWith (flawsBy (now (entries .entry)) (now (rec .entry)) (now (rows .entry))) (r .code)) ⌝ }
+    ensures { λ r. ⌜ Walked (now (entries .entry)) (now (rows .entry)) (now (rec .entry)) r ⌝ }
 {
     let found = first_flaw(entries, rows, rec);
     if found.code != 0 {

@@ -5,6 +5,7 @@ use native.Mathlib.Omega.{arith}
 use lib.ListN.{length}
 use denote.Ref.{now}
 use Rattle.walking.specs.Walks.{flawsBy}
+use Rattle.walking.specs.Promises.{Walked}
 use Rattle.walking.proofs.WalkLaws.{flaws-many, rules-many, with-above, rows-above, from-fields, from-rows}
 use borrow.Author.Needs.{needs}
 use Rattle.walking.proofs.walk.Statement.{statement}
@@ -14,6 +15,7 @@ first-flaw-requires : tie.Need-first-flaw-requires
 first-flaw-requires c κs = search needs
 
 returns : tie.Need-returns
+unfolding Walked
 returns c = let f = c .before .before in (from-fields (f .first-flaw .result .code) _ _ (f .first-flaw .ensures .0) (c .if1 .taken), f .first-flaw .ensures .1)
 
 add-first-row : tie.Need-add-first-row
@@ -23,11 +25,13 @@ first-row-requires : tie.Need-first-row-requires
 first-row-requires c κs = search needs
 
 returns-2 : tie.Need-returns-2
+unfolding Walked
 returns-2 c =
     let f = c .before .before .before .before in
     (c .before .before .if1 .left ∙ sym (c .if2 .taken) ∙ c .before .first-row .ensures ∙ from-rows (f .first-flaw .result .code) _ _ (f .first-flaw .ensures .0) (c .before .before .if1 .left), f .first-flaw .ensures .1)
 
 returns-3 : tie.Need-returns-3
+unfolding Walked
 returns-3 c =
     let w = c .before in
     let f = w .before .before .before in

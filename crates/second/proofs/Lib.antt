@@ -1,0 +1,3 @@
+pub mod UnitLaws
+pub mod TableLaws
+pub mod Unique
