@@ -27,9 +27,8 @@ use Rattle.walking.specs.declared.Found.{Found}
 use Rattle.second.proofs.UnitLaws.{flawsTold, all-told}
 
 module _ (entries rows : List (List ℕ)) (r : List ℕ)
-  (fields : flawsBy entries r rows ≡ flawsTold 1 stationTable (fieldsOf r))
-  (between : All (fieldRules (fieldsOf r)) → firstRow entries r (length entries + 1) 255 rows ≡ firstBroken 31 (betweenRules (valueOf r))) where
-
+    (fields : flawsBy entries r rows ≡ flawsTold 1 stationTable (fieldsOf r))
+    (between : All (fieldRules (fieldsOf r)) → firstRow entries r (length entries + 1) 255 rows ≡ firstBroken 31 (betweenRules (valueOf r))) where
   same-flaws : flawsBy entries r rows ≡ flawsFrom 1 stationTable (fieldsOf r)
   same-flaws = fields ∙ all-told 0 stationTable (fieldsOf r)
 

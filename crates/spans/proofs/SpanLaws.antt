@@ -41,7 +41,7 @@ either-way false low high e = refl
 pub either-side : (low high : ℕ) (z : ℤ) → natAbs z ≤ unbounded → leb (natAbs z) (cond (isNegative z) low high) ≡ eitherSide low high z
 either-side low high z h = by (eqb low high) refl (eqb high unbounded) refl where
   by : (a : Bool) → eqb low high ≡ a → (b : Bool) → eqb high unbounded ≡ b
-    → leb (natAbs z) (cond (isNegative z) low high) ≡ cond a (cond b true (leb (natAbs z) high)) (leb (natAbs z) (cond (isNegative z) low high))
+      → leb (natAbs z) (cond (isNegative z) low high) ≡ cond a (cond b true (leb (natAbs z) high)) (leb (natAbs z) (cond (isNegative z) low high))
   by true e true f = rw (either-way (isNegative z) low high e) (to-any high (natAbs z) h f)
   by true e false f = rw (either-way (isNegative z) low high e)
   by false e b f = refl

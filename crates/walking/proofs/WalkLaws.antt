@@ -88,8 +88,8 @@ rows-above entries r low high [] n = absurd (n refl)
 rows-above entries r low high (row ∷ rows) n =
     cond-bool (keptBy entries r low high row) (λ e. rows-above entries r low high rows) (λ e m. row-asked entries r low high row e) n where
       cond-bool : (b : Bool) → (b ≡ true → (firstRow entries r low high rows ≡ 0 → ⊥) → low ≤ firstRow entries r low high rows)
-        → (b ≡ false → (getD row 0 0 ≡ 0 → ⊥) → low ≤ getD row 0 0)
-        → (cond b (firstRow entries r low high rows) (getD row 0 0) ≡ 0 → ⊥) → low ≤ cond b (firstRow entries r low high rows) (getD row 0 0)
+          → (b ≡ false → (getD row 0 0 ≡ 0 → ⊥) → low ≤ getD row 0 0)
+          → (cond b (firstRow entries r low high rows) (getD row 0 0) ≡ 0 → ⊥) → low ≤ cond b (firstRow entries r low high rows) (getD row 0 0)
       cond-bool true f g = f refl
       cond-bool false f g = g refl
 

@@ -49,7 +49,14 @@ fn stands(entries: &[[usize; 6]], rec: &[u8], fact: usize, k: usize, want: usize
 }
 
 // Whether row j is kept: its code is not asked for, or its two facts do not stand together.
-fn is_kept(entries: &[[usize; 6]], rows: &[[usize; 7]], rec: &[u8], low: usize, high: usize, j: usize) -> bool
+fn is_kept(
+    entries: &[[usize; 6]],
+    rows: &[[usize; 7]],
+    rec: &[u8],
+    low: usize,
+    high: usize,
+    j: usize,
+) -> bool
     requires { ⌜ j < length (now rows) ⌝ }
     ensures { λ r. ⌜ r ≡ keptBy (now (entries .entry)) (now (rec .entry)) low high (getD (now (rows .entry)) j []) ⌝ }
 {
@@ -73,7 +80,13 @@ fn is_kept(entries: &[[usize; 6]], rows: &[[usize; 7]], rec: &[u8], low: usize, 
 }
 
 // The code of the first row that is broken, of those from low to high; 0 where none is.
-fn first_row(entries: &[[usize; 6]], rows: &[[usize; 7]], rec: &[u8], low: usize, high: usize) -> usize
+fn first_row(
+    entries: &[[usize; 6]],
+    rows: &[[usize; 7]],
+    rec: &[u8],
+    low: usize,
+    high: usize,
+) -> usize
     ensures { λ r. ⌜ r ≡ firstRow (now (entries .entry)) (now (rec .entry)) low high (now (rows .entry)) ⌝ }
 {
     let mut j: usize = 0;
@@ -129,10 +142,7 @@ fn first_flaw(entries: &[[usize; 6]], rows: &[[usize; 7]], rec: &[u8]) -> Found
     while i < entries.len() {
         let flaw = flaw_behind(entries, rows, rec, i);
         if !is_flawless(flaw) {
-            return Found {
-                code: 1 + i,
-                flaw,
-            };
+            return Found { code: 1 + i, flaw };
         }
         i += 1;
     }

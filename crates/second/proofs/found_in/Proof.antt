@@ -40,16 +40,16 @@ unfolding firstBroken firstRow factOf flawBehind entryFlaw kindFlaw decimalEntry
 returns c =
     let r = now (c .before .before .before .before .args .rec) in
     by-tables _ _ r _ (c .walk .ensures) refl (λ h.
-      let holds : (k : ℕ) → getD (fieldRules (fieldsOf r)) (k - 1) true ≡ true = rule (fieldRules (fieldsOf r)) h in
-      rw (
-        frequency-given (take 11 r) (take 1 (drop 11 r)) (holds 1),
-        frequency-given (take 11 (drop 125 r)) (take 1 (drop 136 r)) (holds 24),
-        tenths-given 3 1 true anyNumber (take 6 (drop 84 r)) (holds 15),
-        tenths-given 3 1 false ((meantAt 17) .range) (take 5 (drop 91 r)) (holds 17),
-        tenths-given 2 1 true ((meantAt 18) .range) (take 5 (drop 96 r)) (holds 18),
-        tenths-given 2 1 false anyNumber (take 4 (drop 103 r)) (holds 20),
-        height-given (take 4 (drop 71 r)) (holds 13),
-      ))
+    let holds : (k : ℕ) → getD (fieldRules (fieldsOf r)) (k - 1) true ≡ true = rule (fieldRules (fieldsOf r)) h in
+    rw (
+      frequency-given (take 11 r) (take 1 (drop 11 r)) (holds 1),
+      frequency-given (take 11 (drop 125 r)) (take 1 (drop 136 r)) (holds 24),
+      tenths-given 3 1 true anyNumber (take 6 (drop 84 r)) (holds 15),
+      tenths-given 3 1 false ((meantAt 17) .range) (take 5 (drop 91 r)) (holds 17),
+      tenths-given 2 1 true ((meantAt 18) .range) (take 5 (drop 96 r)) (holds 18),
+      tenths-given 2 1 false anyNumber (take 4 (drop 103 r)) (holds 20),
+      height-given (take 4 (drop 71 r)) (holds 13),
+    ))
 
 pub found-in-spec : {M : Type 1} → statement M
 found-in-spec =

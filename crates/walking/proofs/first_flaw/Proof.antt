@@ -46,9 +46,10 @@ returns c =
     let i = l .loop .i in
     let xs = flawsBy es r ws in
     let more : i < length (flawlessAll xs) = rw (flaws-many es r ws) (t .loop-test .taken) in
-    let is : f .flaw-behind .result ≡ getD xs i flaw.None = f .flaw-behind .ensures ∙ sym (flaw-at es r ws i (t .loop-test .taken)) in
-    (sym (l .loop .inv ∙ rule-off 1 (flawlessAll xs) i more (rules-at xs i more ∙ sym (ap flawless is) ∙ sym (c .before .is-flawless .ensures) ∙ not-true _ (c .if1 .taken))),
-    is ∙ with-at xs i (1 + i) (omega arith) (omega (arith, more, rules-many xs)))
+    let is : f .flaw-behind .result ≡ getD xs i flaw.None = f .flaw-behind .ensures ∙ sym (flaw-at es r ws i (t .loop-test .taken)) in (
+      sym (l .loop .inv ∙ rule-off 1 (flawlessAll xs) i more (rules-at xs i more ∙ sym (ap flawless is) ∙ sym (c .before .is-flawless .ensures) ∙ not-true _ (c .if1 .taken))),
+      is ∙ with-at xs i (1 + i) (omega arith) (omega (arith, more, rules-many xs)),
+    )
 
 add-i : tie.Need-add-i Inv-loop μ-loop
 add-i c = search needs

@@ -39,9 +39,10 @@ returns-3 c =
     let es = now (a .entries) in
     let r = now (a .rec) in
     let ws = now (a .rows) in
-    let above : length es + 1 ≤ w .first-row .result = rw (w .first-row .ensures) (rows-above es r (length es + 1) 255 ws (λ z. c .if2 .left (w .first-row .ensures ∙ z))) in
-    (w .first-row .ensures ∙ from-rows (f .first-flaw .result .code) _ _ (f .first-flaw .ensures .0) (w .before .if1 .left),
-    with-above (flawsBy es r ws) (w .first-row .result) (omega (arith, above, rules-many (flawsBy es r ws), flaws-many es r ws)))
+    let above : length es + 1 ≤ w .first-row .result = rw (w .first-row .ensures) (rows-above es r (length es + 1) 255 ws (λ z. c .if2 .left (w .first-row .ensures ∙ z))) in (
+      w .first-row .ensures ∙ from-rows (f .first-flaw .result .code) _ _ (f .first-flaw .ensures .0) (w .before .if1 .left),
+      with-above (flawsBy es r ws) (w .first-row .result) (omega (arith, above, rules-many (flawsBy es r ws), flaws-many es r ws)),
+    )
 
 pub walk-spec : {M : Type 1} → statement M
 walk-spec =
