@@ -146,6 +146,11 @@ uint8_t desk_station_code(const uint8_t *record, size_t record_length, uint8_t *
 uint8_t desk_station_kind(const uint8_t *record, size_t record_length, uint8_t *code, uint8_t *kind);
 
 /*
+ * The same from the second judge, which walks the table of docs/TABLE.md: the answers of desk_station_kind on every record.
+ */
+uint8_t desk_station_second(const uint8_t *record, size_t record_length, uint8_t *code, uint8_t *kind);
+
+/*
  * Judges one record as a header; `code` is that of its first broken rule, 1 to 14.
  * Refusals: 6, 9.
  */

@@ -47,6 +47,8 @@ fn main() {
     let [small, _, full] = &sizes;
     row("station code, stations that hold", station_code(&samples::stations()));
     row("station code, one field broken", station_code(&samples::broken_stations()));
+    row("second judge, stations that hold", station_second(&samples::stations()));
+    row("second judge, one field broken", station_second(&samples::broken_stations()));
     row("judge, n = 298", full.judge);
     row("verify a sheet that is right, n = 298", full.verify);
     row("operators, n = 298, 100 of them", full.operators);
@@ -125,6 +127,19 @@ fn station_code(stations: &[Record]) -> Times {
     compare(
         || _ = black_box(raw::station_code(black_box(ours.next().expect("a cycle")))),
         || _ = black_box(peer::station_code(black_box(theirs.next().expect("a cycle")))),
+    )
+}
+
+/// The code of stations and its kind, by the second judge.
+fn station_second(stations: &[Record]) -> Times {
+    for station in stations {
+        assert_eq!(raw::station_second(station), raw::station_kind(station));
+    }
+    let mut ours = stations.iter().cycle();
+    let mut theirs = stations.iter().cycle();
+    compare(
+        || _ = black_box(raw::station_second(black_box(ours.next().expect("a cycle")))),
+        || _ = black_box(peer::station_kind(black_box(theirs.next().expect("a cycle")))),
     )
 }
 

@@ -262,7 +262,23 @@ pub enum Kind {
 /// assert_eq!(desk::station_kind(&[]), Err(desk::Refusal::RecordLength));
 /// ```
 pub fn station_kind(record: &[u8]) -> Result<Option<(u8, Kind)>, Refusal> {
-    let (refusal, code, kind) = raw::station_kind(record);
+    told(raw::station_kind(record))
+}
+
+/// The same from the second judge, which walks the table: it gives the answer of `station_kind` on every record.
+/// Refusal: 6.
+///
+/// ```
+/// # let mut station = *include_bytes!(concat!(env!("CARGO_MANIFEST_DIR"), "/station-s.txt"));
+/// station[91..96].copy_from_slice(b"360.0");
+/// assert_eq!(desk::station_second(&station), desk::station_kind(&station));
+/// ```
+pub fn station_second(record: &[u8]) -> Result<Option<(u8, Kind)>, Refusal> {
+    told(raw::station_second(record))
+}
+
+/// A refusal, a code and the number of its kind, in words.
+fn told((refusal, code, kind): (u8, u8, u8)) -> Result<Option<(u8, Kind)>, Refusal> {
     let kind = match kind {
         0 => return answer(refusal, code, None),
         1 => Kind::Byte,

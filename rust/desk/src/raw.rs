@@ -75,6 +75,12 @@ extern "C" {
         code: *mut u8,
         kind: *mut u8,
     ) -> u8;
+    fn desk_station_second(
+        record: *const u8,
+        record_length: usize,
+        code: *mut u8,
+        kind: *mut u8,
+    ) -> u8;
     fn desk_header_code(record: *const u8, record_length: usize, code: *mut u8) -> u8;
     fn desk_respell_station(
         record: *const u8,
@@ -255,6 +261,14 @@ pub fn station_kind(record: &[u8]) -> (u8, u8, u8) {
     let (mut code, mut kind) = (NO_CODE, NO_CODE);
     // SAFETY: the pointer is good for the length of its slice; the answers are places of our own.
     let refusal = unsafe { desk_station_kind(record.as_ptr(), record.len(), &mut code, &mut kind) };
+    (refusal, code, kind)
+}
+
+/// `desk_station_second`: the same from the second judge, which walks the table.
+pub fn station_second(record: &[u8]) -> (u8, u8, u8) {
+    let (mut code, mut kind) = (NO_CODE, NO_CODE);
+    // SAFETY: the pointer is good for the length of its slice; the answers are places of our own.
+    let refusal = unsafe { desk_station_second(record.as_ptr(), record.len(), &mut code, &mut kind) };
     (refusal, code, kind)
 }
 

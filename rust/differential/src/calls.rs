@@ -73,7 +73,7 @@ impl Comparison {
         self.tally.answer(call.name, answer);
     }
 
-    /// Compares the kind that comes with a record's code; its code is that of `desk_station_code`.
+    /// Compares the kind that comes with a record's code; its code is that of `desk_station_code`, and the second judge gives both.
     pub fn kind(&mut self, record: &[u8]) {
         let lent = Lent::new(record);
         let answer = raw::station_kind(lent.part());
@@ -81,6 +81,10 @@ impl Comparison {
         agree("kind and code", (answer.0, answer.1), raw::station_code(lent.part()), &[record]);
         untouched("station_kind", &lent, record);
         self.tally.kind(answer);
+        let second = raw::station_second(lent.part());
+        agree("station_second", second, answer, &[record]);
+        untouched("station_second", &lent, record);
+        self.tally.refusal("station_second", second.0);
     }
 
     /// Compares a call that reads `from` and writes into a buffer that holds `to`; answers what the

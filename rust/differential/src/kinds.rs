@@ -116,8 +116,20 @@ const EXAMPLES: [(u8, &str, u8); 98] = [
     (30, "AUT231AAB01A001", SHAPE),
 ];
 
+/// Gives a record with every byte at every place.
+fn changed_bytes(comparison: &mut Comparison, record: &Record) {
+    for place in 0..record.len() {
+        for byte in 0..=u8::MAX {
+            let mut other = *record;
+            other[place] = byte;
+            comparison.kind(&other);
+        }
+    }
+}
+
 /// Gives each example in a station that holds otherwise, and then with every byte at every place.
 pub fn sweep(comparison: &mut Comparison) {
+    changed_bytes(comparison, STATION);
     for (code, text, kind) in EXAMPLES {
         let mut record = *STATION;
         records::put(&mut record, &STATION_FIELDS, usize::from(code), text.as_bytes());

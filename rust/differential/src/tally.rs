@@ -13,6 +13,7 @@ const REFUSALS: &[(&str, &[u8])] = &[
     ("show", &[0, 1, 2, 5, 8]),
     ("station_code", &[0, 6, 9]),
     ("station_kind", &[0, 6, 9]),
+    ("station_second", &[0, 6, 9]),
     ("header_code", &[0, 6, 9]),
     ("respell_station", &[0, 6, 7, 9]),
     ("respell_header", &[0, 6, 7, 9]),
