@@ -48,7 +48,9 @@ pub fn print_bounds(kind: usize, low: usize, high: usize) {
         return;
     }
     if kind == 1 {
-        io::write_all(1, b"above 0");
+        if low == 1 {
+            io::write_all(1, b"above 0");
+        }
         return;
     }
     if high == 0 {
