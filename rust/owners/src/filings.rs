@@ -2,7 +2,7 @@
 
 use std::path::Path;
 
-use desk::{Refusal, Replayed, MAX_STATIONS, RECORD_LENGTH};
+use desk::{Finding, Refusal, Replayed, MAX_STATIONS, RECORD_LENGTH};
 
 use crate::asked;
 use crate::rules;
@@ -21,6 +21,7 @@ const SITE: std::ops::Range<usize> = 5..11;
 pub const ROW_WIDTH: usize = 5;
 
 /// A file that the library judges, and the sheet that it gave.
+#[derive(Clone, Debug, PartialEq, Eq)]
 pub struct Filing {
     bytes: Vec<u8>,
     sheet: Vec<u8>,
@@ -48,6 +49,20 @@ impl Filing {
         })
     }
 
+    /// A filing and a sheet that was stored beside it, with what verifying finds of that; where it is
+    /// not right the filing is judged again.
+    pub fn stored(
+        bytes: Vec<u8>,
+        sheet: Vec<u8>,
+    ) -> Result<(Filing, Result<Finding, Refusal>), Refusal> {
+        let found = desk::verify(&bytes, &sheet);
+        let filing = match found {
+            Ok(Finding::Right) => Filing { bytes, sheet },
+            _ => Filing::new(bytes)?,
+        };
+        Ok((filing, found))
+    }
+
     /// Puts records under the header of this filing, the number of stations set.
     pub fn with_records(&self, records: &[u8]) -> Result<Filing, Refusal> {
         let mut bytes = self.bytes[..RECORD_LENGTH].to_vec();
@@ -63,6 +78,11 @@ impl Filing {
     /// Runs a trace of saves on the filing, which then is what they left, with its sheet.
     pub fn replay(&mut self, trace: &[u8]) -> Replayed {
         desk::replay(&mut self.bytes, &mut self.sheet, trace).expect("a filing has its lengths")
+    }
+
+    /// Puts in a record, 0 being the header, mends the sheet and answers how many rows were written.
+    pub fn replace(&mut self, number: usize, record: &[u8]) -> Result<usize, Refusal> {
+        desk::replace(&mut self.bytes, &mut self.sheet, number, record)
     }
 
     /// The sheet that the filing is judged to.
@@ -109,12 +129,22 @@ impl Filing {
     pub fn report(&self) -> String {
         let mut report = format!("header {}\n", self.header_code());
         for station in 1..=self.stations() {
-            let (code, twin, clash) = (self.code(station), self.twin(station), self.clash(station));
-            if (code, twin, clash) != (0, 0, 0) {
-                report += &format!("station {station} code {code} twin {twin} clash {clash}\n");
+            if self.is_bad(station) {
+                report += &self.row(station);
             }
         }
         report + &format!("stations {} bad {}\n", self.stations(), self.bad())
+    }
+
+    /// Whether a station's row is bad.
+    pub fn is_bad(&self, station: usize) -> bool {
+        (self.code(station), self.twin(station), self.clash(station)) != (0, 0, 0)
+    }
+
+    /// A station's row, as the report has it where it is bad.
+    pub fn row(&self, station: usize) -> String {
+        let (code, twin, clash) = (self.code(station), self.twin(station), self.clash(station));
+        format!("station {station} code {code} twin {twin} clash {clash}\n")
     }
 
     /// What each bad line of the report means, with the field's bytes.

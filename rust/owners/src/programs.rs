@@ -31,13 +31,11 @@ struct Program {
     act: fn(&Asked) -> Outcome<()>,
 }
 
-impl Program {
-    /// What the program does, as its tool's first lines say.
-    fn help(&self) -> String {
-        let lines = self.usage.lines().skip_while(|line| line.starts_with("#!"));
-        let said = lines.map_while(|line| line.strip_prefix('#'));
-        said.map(|line| format!("{}\n", line.strip_prefix(' ').unwrap_or(line))).collect()
-    }
+/// What a program does, as its tool's first lines say.
+pub fn help(tool: &str) -> String {
+    let lines = tool.lines().skip_while(|line| line.starts_with("#!"));
+    let said = lines.map_while(|line| line.strip_prefix('#'));
+    said.map(|line| format!("{}\n", line.strip_prefix(' ').unwrap_or(line))).collect()
 }
 
 const PROGRAMS: &[Program] = &[
@@ -102,7 +100,8 @@ pub fn run(name: &str, words: impl Iterator<Item = OsString>) -> ExitCode {
         Ok(asked) => asked,
         Err(trouble) => return end(program, trouble),
     };
-    let done = if asked.help { put(program.help().as_bytes()) } else { (program.act)(&asked) };
+    let done =
+        if asked.help { put(help(program.usage).as_bytes()) } else { (program.act)(&asked) };
     match done {
         Ok(()) => ExitCode::SUCCESS,
         Err(trouble) => end(program, trouble),
@@ -111,7 +110,7 @@ pub fn run(name: &str, words: impl Iterator<Item = OsString>) -> ExitCode {
 
 /// Says why a run ends, on one line.
 fn end(program: &Program, trouble: Trouble) -> ExitCode {
-    let help = program.help();
+    let help = help(program.usage);
     let usage = help.lines().find(|line| line.starts_with("usage: ")).unwrap_or("");
     match &trouble {
         Trouble::Wrong(why) => eprintln!("{}: {why}; {usage}", program.name),
@@ -121,7 +120,7 @@ fn end(program: &Program, trouble: Trouble) -> ExitCode {
 }
 
 /// Writes to standard output.
-fn put(bytes: &[u8]) -> Outcome<()> {
+pub fn put(bytes: &[u8]) -> Outcome<()> {
     let mut out = io::stdout();
     let written = out.write_all(bytes).and_then(|()| out.flush());
     written.map_err(|error| {
@@ -143,14 +142,34 @@ fn file_list(asked: &Asked) -> Outcome<()> {
         return Err(Trouble::Wrong("NEW is the list itself".to_string()));
     }
     let old = Filing::read(old_path)?;
-    let list = read(list_path)?;
-    let new = listed(&old, &list)?;
+    let new = offered(asked, &old, old_path, &read(list_path)?, new_path)?;
+    if read(old_path)? != old.bytes() {
+        return Err(refused(&format!("{} has changed meanwhile", old_path.display())));
+    }
+    write(new_path, new.bytes())?;
+    eprintln!("file_list: {} is written, {} stations", new_path.display(), new.stations());
+    match new.bad() {
+        0 => Ok(()),
+        bad => Err(Trouble::Refused(format!("{} bad, as the report says", are(bad)))),
+    }
+}
+
+/// What a list makes of an old filing: its report and what changes are shown, and it is asked
+/// whether to write.
+pub fn offered(
+    asked: &Asked,
+    old: &Filing,
+    old_path: &Path,
+    list: &[u8],
+    new_path: &Path,
+) -> Outcome<Filing> {
+    let new = listed(old, list)?;
     put(new.report().as_bytes())?;
     eprint!("{}", new.explained());
     if new.header_code() != 0 {
         return Err(refused("the header breaks a rule"));
     }
-    let changes = Changes::between(&old, &new);
+    let changes = Changes::between(old, &new);
     put(changes.text().as_bytes())?;
     if !asked.has("--fewer") && (changes.gone > 0 || new.stations() < old.stations()) {
         return Err(refused(&format!(
@@ -164,19 +183,11 @@ fn file_list(asked: &Asked) -> Outcome<()> {
     if !asked.has("--yes") && !agreed(new_path)? {
         return Err(refused("the answer was not yes"));
     }
-    if read(old_path)? != old.bytes() {
-        return Err(refused(&format!("{} has changed meanwhile", old_path.display())));
-    }
-    write(new_path, new.bytes())?;
-    eprintln!("file_list: {} is written, {} stations", new_path.display(), new.stations());
-    match new.bad() {
-        0 => Ok(()),
-        bad => Err(Trouble::Refused(format!("{} bad, as the report says", are(bad)))),
-    }
+    Ok(new)
 }
 
 /// How many are, or that one is.
-fn are(number: usize) -> String {
+pub fn are(number: usize) -> String {
     format!("{number} {}", if number == 1 { "is" } else { "are" })
 }
 
@@ -197,7 +208,7 @@ fn listed(old: &Filing, list: &[u8]) -> Outcome<Filing> {
 }
 
 /// A refusal before anything is written.
-fn refused(why: &str) -> Trouble {
+pub fn refused(why: &str) -> Trouble {
     Trouble::Refused(format!("nothing is written: {why}"))
 }
 
@@ -211,7 +222,7 @@ fn named(number: usize, refusal: Refusal) -> String {
 }
 
 /// A refused line, as list_in names it, and words behind it.
-fn told(number: usize, line: &[u8], refusal: Refusal) -> String {
+pub fn told(number: usize, line: &[u8], refusal: Refusal) -> String {
     let mut text = named(number, refusal);
     text.pop();
     match refusal {
@@ -251,7 +262,7 @@ fn agreed(path: &Path) -> Outcome<bool> {
 
 /// Whether a name can be that of a file that is written: not a folder or a device, and in a folder
 /// that is there.
-fn can_hold(path: &Path) -> Outcome<()> {
+pub fn can_hold(path: &Path) -> Outcome<()> {
     let why = match fs::metadata(path) {
         Ok(there) if there.is_dir() => "it is a directory".to_string(),
         Ok(there) if !there.is_file() => "it is no file".to_string(),
@@ -278,7 +289,7 @@ fn same_file(one: &Path, other: &Path) -> bool {
 }
 
 /// Writes a file whole, or says why it could not.
-fn write(path: &Path, bytes: &[u8]) -> Outcome<()> {
+pub fn write(path: &Path, bytes: &[u8]) -> Outcome<()> {
     let synced = save(path, bytes, &mut |_| ()).map_err(|error| {
         let why = plain(&error);
         let name = path.display();
