@@ -224,6 +224,101 @@ def cases():
     bad = b"318166502861;456.5;M;-10.0;AUT2611AB01A001\n31 81 665 0286-0;456.5;M;-10.0;AUT2611AB01A002\n318166502860;456.5;M;-10.0\n"
     bad += b"318166502860;000456.500000;M;-10.0;AUT2611AB01A002\n318166502860;456.5;m;-10.0;AUT2611AB01A002\n318166502860;;;;AUT2611AB01A001\n"
     yield "carriages_refused", 1, "carriages carriages.csv", {"carriages.csv": DEPOT + bad}, {}
+    for name, status, command, files, after in store_cases():
+        yield "store_" + name, status, command, {"my": SEVEN, **files}, after
+
+
+def store_cases():
+    """A stored desk. Where a case makes a store, `box`, it is taken away at the end; dates are not the same each day."""
+    every = "new report explain operators list save set show file-list export saves again day"
+    dated = " | sed 's/[0-9]*-[0-9]*-[0-9]*/DATE/'"
+
+    def boxed(command):
+        return "store new box my >/dev/null 2>&1; %s; status=$?; rm -r box; exit $status" % command
+
+    # Wrong words, and folders that are no store.
+    yield "help", 0, "store -h", {}, {}
+    yield "without_a_command", 2, "store", {}, {}
+    yield "with_an_unknown_command", 2, "store mend box", {}, {}
+    yield "with_an_unknown_option", 2, "store report --all box", {}, {}
+    yield "with_words_missing", 2, "for name in %s; do store $name; done" % every, {}, {}
+    yield "with_a_word_too_many", 2, "for name in %s; do store $name box 1 power 2 more; done" % every, {}, {}
+    of_each = "for name in report explain operators list saves again day; do store $name %s; done; store save %s 1 record; store set %s 1 power 1; store show %s 1 1; store file-list --yes %s list.csv; store export %s new"
+    some = {"record": RECORDS[0], "list.csv": LIST}
+    yield "on_no_folder", 2, of_each % (("nowhere",) * 6), some, {}
+    yield "on_a_file", 2, of_each % (("my",) * 6), some, {}
+    yield "on_an_empty_folder", 2, "mkdir empty; " + of_each % (("empty",) * 6) + "; status=$?; rmdir empty; exit $status", some, {}
+
+    # New ones.
+    yield "new", 0, "store new box my && store report box; status=$?; rm -r box; exit $status", {}, {}
+    yield "new_in_an_empty_folder", 0, "mkdir box; store new box my; status=$?; rm -r box; exit $status", {}, {}
+    yield "new_of_bad_stations", 1, "store new box bad; store report box; status=$?; rm -r box; exit $status", {"bad": filing([RECORDS[0], RECORDS[0], record(STATION, {"9A": "360.0"})])}, {}
+    yield "new_of_a_header_alone", 1, "store new box bad; store report box; status=$?; rm -r box; exit $status", {"bad": header(0)}, {}
+    yield "new_of_no_filing", 1, "store new box bad", {"bad": SEVEN[:-1]}, {}
+    yield "new_of_no_file", 2, "store new box nowhere", {}, {}
+    yield "new_over_a_store", 2, boxed("store new box my"), {}, {}
+    yield "new_in_a_folder_with_files", 2, "mkdir box; echo mine >box/mine; store new box my; status=$?; rm -r box; exit $status", {}, {}
+    yield "new_in_no_folder", 2, "store new nowhere/box my", {}, {}
+    yield "new_on_a_full_disk", 2, "(ulimit -f 1; trap '' XFSZ; store new box my)", {}, {}
+
+    # Saving, setting, showing.
+    new = changed(2, _4Z="0299")
+    yield "save_a_record", 0, boxed("store save box 2 record && store save box 7 - <record7 && store show box 2 4Z && store report box"), {"record": new[1], "record7": RECORDS[6]}, {}
+    yield "save_a_twin", 1, boxed("store report box; store save box 3 record; store report box"), {"record": RECORDS[0]}, {}
+    yield "save_a_bad_record", 1, boxed("store save box 3 record"), {"record": record(STATION, {"9A": "360.0"})}, {}
+    yield "save_a_header", 1, boxed("store save box 0 right; store save box 0 wrong"), {"right": header(7, {"person": "NOVAK, B.".ljust(20)}), "wrong": header(6)}, {}
+    yield "save_a_short_record", 1, boxed("store save box 3 record; status=$?; store saves box; (exit $status)"), {"record": RECORDS[0][:-1]}, {}
+    yield "save_above_the_last", 1, boxed("store save box 8 record"), {"record": RECORDS[0]}, {}
+    yield "save_no_number", 2, boxed("store save box -3 record; store save box x record"), {"record": RECORDS[0]}, {}
+    yield "save_no_file", 2, boxed("store save box 3 nowhere"), {}, {}
+    yield "save_a_line", 0, boxed("store save box 2 --line \"$(cat line)\" && store list box | sed -n 2p | cmp - wanted"), {"line": new[0], "wanted": one_spelling(new[1])}, {}
+    yield "save_a_refused_line", 1, boxed("store save box 2 --line \"$(cat line)\"; status=$?; store saves box; (exit $status)"), {"line": new[0].replace(b";M;", b";MHz;", 1)}, {}
+    yield "save_a_line_as_the_header", 2, boxed("store save box 0 --line ';'"), {}, {}
+    yield "set_each", 0, boxed("store set box 1 power -5.5 && store set box 1 azimuth 359.9 && store set box 1 elevation -90 && store set box 1 height -5 && store set box 1 ground 30 && for field in 8B1 9A 9B 4Z 9Y; do store show box 1 $field; done"), {}, {}
+    yield "set_blank", 1, boxed("store set box 1 power blank && store set box 1 height blank; store show box 1 15; store set box 1 ground blank"), {}, {}
+    yield "set_out_of_range", 1, boxed("store set box 1 azimuth 360.0; store set box 1 ground 31; store set box 1 ground 10000"), {}, {}
+    yield "set_what_breaks_a_rule_between_fields", 1, boxed("store set box 2 azimuth 10"), {}, {}
+    yield "set_no_value", 2, boxed("store set box 1 power high; store set box 1 power 1.25; store set box 1 height 1.5; store set box 1 gain 3; store set box 0 power 3; store set box 8 power 3; store set box 1 power ''"), {}, {}
+    yield "show", 1, boxed("store show box 0 2; store show box 1 30; store show box 1 13X; store show box 1 2; store show box 1 31; store show box 8 1"), {}, {}
+
+    # What the proved programs print, and the list itself.
+    same = "explain my >wanted; operators my >>wanted; for name in explain operators; do store $name box; done | cmp - wanted && store list box | cmp - list.csv && store report box && store export box - | cmp - my; status=$?; rm wanted; (exit $status)"
+    yield "as_the_programs", 0, boxed(same), {"list.csv": b"".join(map(one_spelling, RECORDS))}, {}
+    yield "explain_a_bad_station", 1, "store new box bad >/dev/null 2>&1; store explain box; status=$?; rm -r box; exit $status", {"bad": filing([RECORDS[0], record(STATION, {"9A": "360.0"})])}, {}
+    yield "export", 0, boxed("store export box new"), {}, {"new": SEVEN}
+    yield "export_into_the_store", 2, boxed("store export box box/state; store export box box/day-1/new"), {}, {}
+    yield "export_into_no_folder", 2, boxed("store export box nowhere/new"), {}, {}
+
+    # Lists.
+    order = {"list.csv": b"".join(LINES[1:] + [good(20)[0]])}
+    filed = filing(RECORDS[1:] + [good(20)[1]])
+    yield "file_list", 0, boxed("(echo yes | store file-list --fewer box list.csv)" + dated + " && store export box new && store saves box"), order, {"new": filed}
+    yield "file_list_not_agreed", 1, boxed("echo no | store file-list --fewer box list.csv"), order, {}
+    yield "file_list_with_a_station_gone", 1, boxed("store file-list --yes box list.csv"), order, {}
+    yield "file_list_with_a_refused_line", 1, boxed("store file-list --yes box list.csv"), {"list.csv": LIST.replace(b";FB;", b";FBX;", 1)}, {}
+    yield "file_list_on_standard_input", 2, boxed("store file-list --yes box - <list.csv" + dated + "; store file-list box - <list.csv"), {"list.csv": LIST}, {}
+    yield "file_list_when_the_store_has_changed", 1, boxed("mkfifo answer; store file-list box list.csv <answer >said 2>&1 & exec 3>answer; until grep -q 'yes or no' said; do sleep 0.05; done; store save box 1 record; echo yes >&3; wait $!; status=$?; tail -n 1 said; rm answer said; (exit $status)"), {"list.csv": LIST, "record": changed(1, _4Z="0299")[1]}, {}
+
+    # The day.
+    day = {"record": new[1], "header": header(6)}
+    yield "a_day", 1, boxed("store saves box; store save box 2 record; store save box 0 header; store saves box; store again box 0; store again box 1; store again box; store again box 3"), day, {}
+    yield "a_day_closed", 1, boxed("store save box 2 record; store day box" + dated + "; store day box" + dated + "; store saves box; store again box; cp -r box/days/*-*-?? kept; store saves kept; store again kept 0; store save kept 1 record; status=$?; rm -r kept; (exit $status)"), day, {}
+    yield "a_day_as_replay_takes_it", 0, boxed("store save box 2 record && replay box/day-1/morning box/day-1/saves new && store export box - | cmp - new; status=$?; rm new; (exit $status)"), day, {}
+
+    # Stores that are not as they should be.
+    saved = "store save box 2 record >/dev/null; "
+    yield "with_foreign_bytes", 2, boxed("cp my box/state; store report box; store save box 2 record"), day, {}
+    yield "of_a_newer_form", 2, boxed("echo 'store 2 open' >box/state; store report box"), {}, {}
+    yield "with_a_damaged_list", 2, boxed("sed -i 's/MUSTER/MUSTEN/' box/state; store report box; store save box 2 record"), day, {}
+    yield "with_a_wrong_sheet", 0, boxed("head -c -3 box/state >state; printf 'x2C' >>state; mv state box/state; store report box; store report box"), {}, {}
+    yield "with_a_wrong_morning", 2, boxed("sed -i 's/MUSTER/MUSTEN/' box/day-1/morning; store report box; store day box; store again box"), {}, {}
+    yield "with_wrong_saves", 2, boxed(saved + "sed -i 's/MUSTER/MUSTEN/' box/day-1/saves; store report box; store saves box; store day box"), day, {}
+    yield "with_saves_lost", 2, boxed(saved + ": >box/day-1/saves; store report box; store save box 2 record"), day, {}
+    yield "with_a_file_missing", 2, boxed(saved + "rm box/day-1/saves; store report box; store save box 2 record"), day, {}
+    yield "with_a_save_cut_short", 0, boxed("head -c 100 record >>box/day-1/saves; store report box; store report box; store save box 2 record; store saves box"), day, {}
+    yield "with_an_older_state", 0, boxed("cp box/state older; " + saved + saved + "mv older box/state; store show box 2 4Z; store show box 2 4Z"), day, {}
+    yield "on_a_full_disk", 2, boxed("(ulimit -f 1; trap '' XFSZ; store save box 2 record); status=$?; store report box; store saves box; (exit $status)"), day, {}
+    yield "on_a_full_disk_that_kills", 0, boxed("sh -c '(ulimit -f 1; store save box 2 record); :' >/dev/null 2>&1; store saves box"), day, {}
 
 
 def main():

@@ -100,8 +100,7 @@ pub fn run(name: &str, words: impl Iterator<Item = OsString>) -> ExitCode {
         Ok(asked) => asked,
         Err(trouble) => return end(program, trouble),
     };
-    let done =
-        if asked.help { put(help(program.usage).as_bytes()) } else { (program.act)(&asked) };
+    let done = if asked.help { put(help(program.usage).as_bytes()) } else { (program.act)(&asked) };
     match done {
         Ok(()) => ExitCode::SUCCESS,
         Err(trouble) => end(program, trouble),

@@ -12,7 +12,9 @@ use owners::rules;
 use owners::status::{Outcome, Trouble};
 
 use crate::disk::Disk;
-use crate::store::{make, parts, Store};
+use crate::log::parts;
+use crate::making::make;
+use crate::store::Store;
 use crate::words;
 
 /// The tool whose first lines say how each command is used.
@@ -47,12 +49,12 @@ pub fn run(words: impl Iterator<Item = OsString>, disk: &dyn Disk) -> ExitCode {
     let name = words.next().unwrap_or_default();
     let name = name.to_string_lossy();
     let done = match COMMANDS.iter().find(|command| command.name == name) {
-        Some(command) => Asked::parse(values_last(words), command.options).and_then(|asked| {
-            match asked.help {
+        Some(command) => {
+            Asked::parse(values_last(words), command.options).and_then(|asked| match asked.help {
                 true => put(help(TOOL).as_bytes()),
                 false => (command.act)(&asked, disk),
-            }
-        }),
+            })
+        }
         None if name == "-h" || name == "--help" => put(help(TOOL).as_bytes()),
         None if name.is_empty() => Err(Trouble::Wrong("no command is named".to_string())),
         None => Err(Trouble::Wrong(format!("there is no command {name}"))),

@@ -10,7 +10,7 @@ use std::path::Path;
 /// file's bytes with the file, a name with its folder.
 pub trait Disk {
     /// Makes a folder.
-    fn make_folder(&self, path: &Path) -> io::Result<()>;
+    fn make_folder(&self, path: &Path, permissions: Option<Permissions>) -> io::Result<()>;
 
     /// Makes a new file with these bytes, in the place of one that may be there.
     fn put(&self, path: &Path, bytes: &[u8], permissions: Option<Permissions>) -> io::Result<()>;
@@ -38,8 +38,9 @@ pub trait Disk {
 pub struct Native;
 
 impl Disk for Native {
-    fn make_folder(&self, path: &Path) -> io::Result<()> {
-        fs::create_dir(path)
+    fn make_folder(&self, path: &Path, permissions: Option<Permissions>) -> io::Result<()> {
+        fs::create_dir(path)?;
+        permissions.map_or(Ok(()), |permissions| fs::set_permissions(path, permissions))
     }
 
     fn put(&self, path: &Path, bytes: &[u8], permissions: Option<Permissions>) -> io::Result<()> {
@@ -96,7 +97,7 @@ pub fn beside(path: &Path) -> std::path::PathBuf {
     path.with_file_name(format!(".{name}.new"))
 }
 
-/// The permissions of a file that is there.
+/// The permissions of a file or a folder that is there.
 pub fn permissions(path: &Path) -> Option<Permissions> {
     fs::metadata(path).ok().map(|there| there.permissions())
 }

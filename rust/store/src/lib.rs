@@ -11,6 +11,7 @@ pub mod dates;
 pub mod disk;
 pub mod generation;
 pub mod log;
+pub mod making;
 pub mod opening;
 pub mod store;
 pub mod sums;

@@ -4,11 +4,11 @@
 //! A save counts where both are whole and agree. At most the last one does not: whoever opens the
 //! log to write takes such a one off before anything else.
 
-use std::fs::File;
+use std::fs::{self, File};
 use std::io::{self, Read, Seek, SeekFrom};
 use std::path::{Path, PathBuf};
 
-use desk::SAVE_LENGTH;
+use desk::{RECORD_LENGTH, SAVE_LENGTH};
 use owners::asked::plain;
 use owners::status::{Outcome, Trouble};
 
@@ -108,6 +108,22 @@ pub fn cut(disk: &dyn Disk, folder: &Path, counted: usize) -> io::Result<()> {
     disk.cut(&checks(folder), counted * LINE)?;
     disk.sync(&saves(folder))?;
     disk.sync(&checks(folder))
+}
+
+/// Takes back what a save left of itself in the log, where it left anything; answers whether the
+/// log then ends behind the saves that are counted.
+pub fn take_back(disk: &dyn Disk, folder: &Path, counted: usize) -> bool {
+    let ends = |path: PathBuf, length: usize| {
+        fs::metadata(path).is_ok_and(|found| found.len() == (counted * length) as u64)
+    };
+    ends(saves(folder), SAVE_LENGTH) && ends(checks(folder), LINE)
+        || cut(disk, folder, counted).is_ok()
+}
+
+/// The record in a save, and its number.
+pub fn parts(save: &[u8]) -> (usize, &[u8]) {
+    let (digits, record) = save.split_at(save.len() - RECORD_LENGTH);
+    (digits.iter().fold(0, |number, digit| 10 * number + usize::from(digit - b'0')), record)
 }
 
 /// The line of a sum.

@@ -6,7 +6,6 @@ use std::path::{Path, PathBuf};
 use std::thread;
 use std::time::Duration;
 
-use desk::RECORD_LENGTH;
 use owners::asked::plain;
 use owners::filings::Filing;
 use owners::programs::refused;
@@ -16,6 +15,7 @@ use crate::dates;
 use crate::disk::{self, Disk};
 use crate::generation::Generation;
 use crate::log;
+use crate::making::{first, make_day, remove_day};
 use crate::opening::{self, day, day_of, look, state, Found};
 use crate::sums;
 use crate::words;
@@ -150,7 +150,7 @@ impl<'d> Store<'d> {
         let put = log::append(self.disk, &folder, &save, sum)
             .and_then(|()| self.put_state(&next, &filing));
         if let Err(error) = put {
-            let back = self.stands() && log::cut(self.disk, &folder, self.saves()).is_ok();
+            let back = self.stands() && log::take_back(self.disk, &folder, self.saves());
             return Err(cannot(&self.folder, &error, back));
         }
         self.disk.sync(&self.folder).map_err(|error| cannot(&self.folder, &error, false))?;
@@ -209,7 +209,7 @@ impl<'d> Store<'d> {
     /// Makes the folder of the next day, and leaves the state of this one in its folder.
     fn begin_next(&self, next: &Generation, list: &Filing) -> io::Result<()> {
         let like = state(&self.folder);
-        make_day(self.disk, &day(&self.folder, next.day), list, &like)?;
+        make_day(self.disk, &self.folder, next.day, list)?;
         self.disk.sync(&self.folder)?;
         let closed = Generation { closed: true, ..self.found.generation.clone() };
         let bytes = closed.bytes(self.filing().bytes(), self.filing().sheet());
@@ -222,11 +222,16 @@ impl<'d> Store<'d> {
     fn keep_day_before(&self) -> io::Result<()> {
         let days = self.folder.join("days");
         if !days.exists() {
-            self.disk.make_folder(&days)?;
+            // Nothing is put into a folder that may be gone after a power cut.
+            self.disk.make_folder(&days, disk::permissions(&self.folder))?;
+            self.disk.sync(&self.folder)?;
         }
         let generation = &self.found.generation;
-        let from = day(&self.folder, generation.day - 1);
-        self.disk.rename(&from, &days.join(&generation.before))?;
+        let mut place = days.join(&generation.before);
+        if place.exists() {
+            place = days.join(self.free_name());
+        }
+        self.disk.rename(&day(&self.folder, generation.day - 1), &place)?;
         self.disk.sync(&days)?;
         self.disk.sync(&self.folder)
     }
@@ -241,103 +246,7 @@ impl<'d> Store<'d> {
     }
 }
 
-/// Makes a store: a folder that is new, or empty, or was left by a run that was ended while it made
-/// one.
-pub fn make(folder: &Path, list: &Filing, disk: &dyn Disk) -> Outcome<()> {
-    let is_new = !folder.exists();
-    if is_new {
-        disk.make_folder(folder).map_err(|error| cannot(folder, &error, true))?;
-    }
-    let _lock = opening::lock(folder)?;
-    is_free(folder)?;
-    fill(folder, list, disk).map_err(|error| {
-        let back = !state(folder).exists() && unmake(folder, is_new, disk).is_ok();
-        cannot(folder, &error, back)
-    })
-}
-
-/// Takes away what was made of a store that has no state yet.
-fn unmake(folder: &Path, is_new: bool, disk: &dyn Disk) -> io::Result<()> {
-    let begun = disk::beside(&state(folder));
-    if begun.exists() {
-        disk.remove(&begun)?;
-    }
-    remove_day(disk, &day(folder, 1))?;
-    if is_new {
-        disk.remove_folder(folder)?;
-    }
-    Ok(())
-}
-
-/// Writes the first day and, when that is on the disk, the state.
-fn fill(folder: &Path, list: &Filing, disk: &dyn Disk) -> io::Result<()> {
-    let path = state(folder);
-    make_day(disk, &day(folder, 1), list, &path)?;
-    disk.sync(folder)?;
-    disk::replace(disk, &path, &first(list).bytes(list.bytes(), list.sheet()), &path)?;
-    disk.sync(folder)?;
-    disk.sync(&folder.canonicalize()?.join(".."))
-}
-
-/// The generation that a list begins.
-fn first(list: &Filing) -> Generation {
-    Generation {
-        closed: false,
-        day: 1,
-        saves: 0,
-        sum: sums::NOTHING,
-        morning: sums::more(sums::NOTHING, list.bytes()),
-        before: "-".to_string(),
-        rules: desk::rules(),
-    }
-}
-
-/// Makes the folder of a day: the morning's list, and an empty log. One that a run left unfinished
-/// goes first.
-fn make_day(disk: &dyn Disk, folder: &Path, list: &Filing, like: &Path) -> io::Result<()> {
-    remove_day(disk, folder)?;
-    disk.make_folder(folder)?;
-    let morning = folder.join("morning");
-    disk.put(&morning, list.bytes(), disk::permissions(like))?;
-    disk.sync(&morning)?;
-    log::begin(disk, folder, like)?;
-    disk.sync(folder)
-}
-
-/// Takes away the folder of a day that no state names, where it is there.
-fn remove_day(disk: &dyn Disk, folder: &Path) -> io::Result<()> {
-    if !folder.exists() {
-        return Ok(());
-    }
-    for entry in fs::read_dir(folder)? {
-        disk.remove(&entry?.path())?;
-    }
-    disk.remove_folder(folder)
-}
-
-/// Whether nothing is in a folder but what a run left that was ended while it made a store there.
-fn is_free(folder: &Path) -> Outcome<()> {
-    let unusable = |why: &str| Trouble::Unusable(format!("{} {why}", folder.display()));
-    let begun = [".state.new", "day-1"];
-    let entries =
-        fs::read_dir(folder).map_err(|error| Trouble::unreadable(folder, plain(&error)))?;
-    for entry in entries.flatten() {
-        match entry.file_name().to_string_lossy().as_ref() {
-            "state" => return Err(unusable("is a store already")),
-            name if begun.contains(&name) => (),
-            _ => return Err(unusable("is not empty")),
-        }
-    }
-    Ok(())
-}
-
 /// A store that cannot be written, and whether what was begun is taken back.
-fn cannot(folder: &Path, error: &io::Error, back: bool) -> Trouble {
+pub(crate) fn cannot(folder: &Path, error: &io::Error, back: bool) -> Trouble {
     Trouble::Unusable(words::not_written(folder, &plain(error), back))
-}
-
-/// The record in a save, and its number.
-pub fn parts(save: &[u8]) -> (usize, &[u8]) {
-    let (digits, record) = save.split_at(save.len() - RECORD_LENGTH);
-    (digits.iter().fold(0, |number, digit| 10 * number + usize::from(digit - b'0')), record)
 }
