@@ -14,7 +14,7 @@ use owners::status::{Outcome, Trouble};
 use crate::disk::Disk;
 use crate::log::parts;
 use crate::making::make;
-use crate::store::Store;
+use crate::store::{Day, Store};
 use crate::words;
 
 /// The tool whose first lines say how each command is used.
@@ -338,7 +338,8 @@ fn export(asked: &Asked, disk: &dyn Disk) -> Outcome<()> {
 
 fn saves(asked: &Asked, disk: &dyn Disk) -> Outcome<()> {
     let [folder] = words_of(asked)?;
-    let saves = read(folder, disk)?.day()?.saves;
+    let (store, Day { saves, .. }) = Store::read_day(Path::new(folder), disk)?;
+    say(folder, &store);
     let mut text = String::new();
     for (index, save) in saves.chunks(SAVE_LENGTH).enumerate() {
         let (number, record) = parts(save);
@@ -363,8 +364,8 @@ fn again(asked: &Asked, disk: &dyn Disk) -> Outcome<()> {
     if let Some(word) = words.next() {
         return Err(Trouble::Wrong(format!("{} is a word too many", word.to_string_lossy())));
     }
-    let store = read(folder, disk)?;
-    let mut day = store.day()?;
+    let (store, mut day) = Store::read_day(Path::new(folder), disk)?;
+    say(folder, &store);
     let all = store.saves();
     let wanted = wanted.unwrap_or(all);
     if wanted > all {

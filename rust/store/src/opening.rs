@@ -1,6 +1,7 @@
 //! A store looked at: its generation read, its sheet verified, its log run from there.
 
 use std::fs::{self, File, TryLockError};
+use std::io::{self, Read};
 use std::path::{Path, PathBuf};
 
 use owners::asked::plain;
@@ -10,6 +11,9 @@ use owners::status::{Outcome, Trouble};
 use crate::generation::Generation;
 use crate::log;
 use crate::words;
+
+/// More bytes than the words, the longest list and its sheet have.
+const MOST: u64 = 1 << 20;
 
 /// What a store holds, the saves of its log run, and what was not as it should be.
 pub struct Found {
@@ -81,7 +85,7 @@ pub fn try_lock(folder: &Path) -> Outcome<Option<File>> {
 /// Looks at a store; nothing is changed.
 pub fn look(folder: &Path) -> Outcome<Found> {
     let path = state(folder);
-    let bytes = fs::read(&path).map_err(|error| no_store(folder, &error))?;
+    let bytes = read_state(&path).map_err(|error| no_store(folder, &error))?;
     let (mut generation, list, sheet) = Generation::read(&path, &bytes)?;
     let (mut filing, found) = Filing::stored(list.to_vec(), sheet.to_vec()).map_err(|refusal| {
         Trouble::Unusable(format!("{} holds no filing: {refusal}", path.display()))
@@ -102,9 +106,16 @@ pub fn look(folder: &Path) -> Outcome<Found> {
     Ok(Found { generation, filing, judged, run: told.accepted, torn: tail.torn, unkept })
 }
 
+/// The bytes of a state; what is longer than any state is not read to its end.
+fn read_state(path: &Path) -> io::Result<Vec<u8>> {
+    let mut bytes = Vec::new();
+    File::open(path)?.take(MOST).read_to_end(&mut bytes)?;
+    Ok(bytes)
+}
+
 /// Why there is no store.
-fn no_store(folder: &Path, error: &std::io::Error) -> Trouble {
-    let missing = error.kind() == std::io::ErrorKind::NotFound;
+fn no_store(folder: &Path, error: &io::Error) -> Trouble {
+    let missing = error.kind() == io::ErrorKind::NotFound;
     let why = match fs::metadata(folder) {
         Ok(there) if !there.is_dir() => "it is no folder".to_string(),
         Ok(_) if missing => "it has no state".to_string(),

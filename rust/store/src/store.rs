@@ -73,6 +73,20 @@ impl<'d> Store<'d> {
         }
     }
 
+    /// Opens a store to be read, with its day; a day that is closed meanwhile is looked for again.
+    pub fn read_day(folder: &Path, disk: &'d dyn Disk) -> Outcome<(Store<'d>, Day)> {
+        let mut looks = 1;
+        loop {
+            let store = Store::read(folder, disk)?;
+            match store.day() {
+                Ok(day) => return Ok((store, day)),
+                Err(trouble) if looks == LOOKS => return Err(trouble),
+                Err(_) => thread::sleep(Duration::from_millis(2)),
+            }
+            looks += 1;
+        }
+    }
+
     /// Opens a store to be changed: waits until no other writer has it, and settles it.
     pub fn write(folder: &Path, disk: &'d dyn Disk) -> Outcome<Store<'d>> {
         let lock = opening::lock(folder)?;

@@ -128,6 +128,51 @@ fn two_and_four_clerks() {
     clerks("four", 4, 50);
 }
 
+/// A clerk at work while the day is closed again and again, and somebody reads it.
+#[test]
+fn days_closed_beside_a_clerk() {
+    let folder = Folder::new("closing");
+    let place = folder.join("box");
+    store_of(&place, MAX_STATIONS);
+    let mut at_work = clerk(&place, "CLERK", 200);
+    let over = AtomicBool::new(false);
+    thread::scope(|scope| {
+        scope.spawn(|| {
+            while !over.load(Ordering::Relaxed) {
+                let (store, mut day) = Store::read_day(&place, &Native).unwrap();
+                day.morning.replay(&day.saves);
+                assert_eq!(&day.morning, store.filing());
+            }
+        });
+        while at_work.try_wait().unwrap().is_none() {
+            let mut store = Store::write(&place, &Native).unwrap();
+            let list = store.filing().clone();
+            store.close_day(&list).unwrap();
+            assert_eq!(store.said, Vec::<String>::new());
+            drop(store);
+            thread::sleep(Duration::from_millis(5));
+        }
+        over.store(true, Ordering::Relaxed);
+    });
+    assert!(at_work.wait().unwrap().success());
+    let days = fs::read_dir(place.join("days")).unwrap().map(|day| day.unwrap().path());
+    let saves = days.chain([place.clone()]).flat_map(|day| open(&day).day().unwrap().saves);
+    let mut saves: Vec<u8> = saves.collect();
+    let mut book: Vec<u8> = book(&place, "CLERK").into_iter().flatten().collect();
+    assert_eq!(book.len(), 200 * SAVE_LENGTH);
+    // Folders come in any order, and each save is told from all others.
+    sort(&mut saves);
+    sort(&mut book);
+    assert_eq!(saves, book);
+}
+
+/// Puts saves in the order of their bytes.
+fn sort(saves: &mut Vec<u8>) {
+    let mut each: Vec<Vec<u8>> = saves.chunks(SAVE_LENGTH).map(<[u8]>::to_vec).collect();
+    each.sort();
+    *saves = each.concat();
+}
+
 #[test]
 #[ignore = "a long run"]
 fn two_and_four_clerks_with_ten_thousand_saves_each() {
