@@ -186,7 +186,7 @@ pub fn offered(
 }
 
 /// How many are, or that one is.
-pub fn are(number: usize) -> String {
+fn are(number: usize) -> String {
     format!("{number} {}", if number == 1 { "is" } else { "are" })
 }
 

@@ -144,6 +144,7 @@ fn judged(filing: &Filing) -> Outcome<()> {
     }
 }
 
+/// Makes a store from a filing, and prints its report.
 fn new(asked: &Asked, disk: &dyn Disk) -> Outcome<()> {
     let [folder, path] = words_of(asked)?;
     let filing = Filing::read(Path::new(path))?;
@@ -154,6 +155,7 @@ fn new(asked: &Asked, disk: &dyn Disk) -> Outcome<()> {
     judged(&filing)
 }
 
+/// Prints the report of the stored sheet.
 fn report(asked: &Asked, disk: &dyn Disk) -> Outcome<()> {
     let [folder] = words_of(asked)?;
     let store = read(folder, disk)?;
@@ -167,6 +169,7 @@ fn hand_out(asked: &Asked, disk: &dyn Disk) -> Outcome<()> {
     put(read(folder, disk)?.filing().bytes())
 }
 
+/// Saves a record, from a file or from a line.
 fn save(asked: &Asked, disk: &dyn Disk) -> Outcome<()> {
     let [folder, station, given] = words_of(asked)?;
     let station = number(station)?;
@@ -208,8 +211,10 @@ fn stored(store: &mut Store, station: usize, record: &[u8]) -> Outcome<()> {
     }
 }
 
-/// What a value that can be set is: its name, its setter, and whether it counts tenths.
+/// A call that sets a value of a record, or makes it blank.
 type Setter = fn(&mut [u8], Option<i64>) -> Result<(), Refusal>;
+
+/// The values that can be set: the name, the setter, and whether it counts tenths.
 const SETTERS: [(&str, Setter, bool); 5] = [
     ("power", desk::set_power, true),
     ("azimuth", desk::set_azimuth, true),
@@ -223,6 +228,7 @@ fn set_ground(record: &mut [u8], metres: Option<i64>) -> Result<(), Refusal> {
     metres.map_or(Err(Refusal::RuleBroken { code: 21 }), |metres| desk::set_ground(record, metres))
 }
 
+/// Sets one value of a station, and saves the record that this makes.
 fn set(asked: &Asked, disk: &dyn Disk) -> Outcome<()> {
     let [folder, station, what, value] = words_of(asked)?;
     let station = number(station)?;
@@ -266,6 +272,7 @@ fn value_of(text: &str, tenths: bool) -> Outcome<Option<i64>> {
     Ok(Some(if text.starts_with('-') { -count } else { count }))
 }
 
+/// Prints the bytes of a field.
 fn show(asked: &Asked, disk: &dyn Disk) -> Outcome<()> {
     let [folder, record, field] = words_of(asked)?;
     let record = number(record)?;
@@ -282,6 +289,7 @@ fn show(asked: &Asked, disk: &dyn Disk) -> Outcome<()> {
     }
 }
 
+/// Files a whole list, its changes shown first; the day is closed.
 fn file_list(asked: &Asked, disk: &dyn Disk) -> Outcome<()> {
     let [folder, path] = words_of(asked)?;
     let (place, list) = (Path::new(folder), Path::new(path));
@@ -300,6 +308,7 @@ fn file_list(asked: &Asked, disk: &dyn Disk) -> Outcome<()> {
     judged(&new)
 }
 
+/// Closes the day; the list goes on.
 fn day(asked: &Asked, disk: &dyn Disk) -> Outcome<()> {
     let [folder] = words_of(asked)?;
     let mut store = change(folder, disk)?;
@@ -316,6 +325,7 @@ fn closed(store: &mut Store, next: &Filing, folder: &OsStr) -> Outcome<()> {
     put(format!("saves {saves} kept days/{name}\n").as_bytes())
 }
 
+/// Writes the list to a file.
 fn export(asked: &Asked, disk: &dyn Disk) -> Outcome<()> {
     let [folder, path] = words_of(asked)?;
     let path = Path::new(path);
@@ -336,6 +346,7 @@ fn export(asked: &Asked, disk: &dyn Disk) -> Outcome<()> {
     Ok(())
 }
 
+/// Prints the day's saves, a line for each.
 fn saves(asked: &Asked, disk: &dyn Disk) -> Outcome<()> {
     let [folder] = words_of(asked)?;
     let (store, Day { saves, .. }) = Store::read_day(Path::new(folder), disk)?;
@@ -357,6 +368,7 @@ fn saves(asked: &Asked, disk: &dyn Disk) -> Outcome<()> {
     put(text.as_bytes())
 }
 
+/// Runs the day's first saves again, and prints what they left.
 fn again(asked: &Asked, disk: &dyn Disk) -> Outcome<()> {
     let mut words = asked.files.iter().map(|word| word.as_os_str());
     let folder = words.next().ok_or_else(|| Trouble::Wrong("no store is named".to_string()))?;

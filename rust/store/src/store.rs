@@ -60,7 +60,7 @@ impl<'d> Store<'d> {
         }
         match opening::try_lock(folder)? {
             Some(_lock) => {
-                let store = Store::open(folder, disk, look(folder)?, None);
+                let mut store = Store::open(folder, disk, look(folder)?, None);
                 // Who may not write reads all the same.
                 let _ = store.settle();
                 Ok(store)
@@ -95,18 +95,19 @@ impl<'d> Store<'d> {
             let why = format!("{} is a day that is closed", folder.display());
             return Err(refused(&why));
         }
-        let store = Store::open(folder, disk, found, Some(lock));
+        let mut store = Store::open(folder, disk, found, Some(lock));
         store.settle().map_err(|error| cannot(folder, &error, false))?;
         Ok(store)
     }
 
+    /// A store as it was found.
     fn open(folder: &Path, disk: &'d dyn Disk, found: Found, lock: Option<File>) -> Store<'d> {
         let said = found.said();
         Store { disk, folder: folder.to_path_buf(), found, said, _lock: lock }
     }
 
     /// Puts on the disk what was found on opening; that may be ended at any moment and done again.
-    fn settle(&self) -> io::Result<()> {
+    fn settle(&mut self) -> io::Result<()> {
         if self.found.torn.is_some() {
             log::cut(self.disk, &self.day_folder(), self.saves())?;
         }
@@ -115,7 +116,7 @@ impl<'d> Store<'d> {
             self.disk.sync(&self.folder)?;
         }
         if self.found.unkept {
-            self.keep_day_before()?;
+            self.try_to_keep();
         }
         Ok(())
     }
@@ -192,6 +193,9 @@ impl<'d> Store<'d> {
     /// is done when the store is opened next, if not now.
     pub fn close_day(&mut self, list: &Filing) -> Outcome<String> {
         self.is_the_day_run()?;
+        if self.found.unkept {
+            self.keep_day_before().map_err(|error| cannot(&self.folder, &error, true))?;
+        }
         let name = self.free_name();
         let number = self.found.generation.day + 1;
         let next = Generation { day: number, before: name.clone(), ..first(list) };
@@ -202,11 +206,20 @@ impl<'d> Store<'d> {
         }
         self.disk.sync(&self.folder).map_err(|error| cannot(&self.folder, &error, false))?;
         (self.found.generation, self.found.filing) = (next, list.clone());
-        if let Err(error) = self.keep_day_before() {
-            let why = plain(&error);
-            self.said.push(format!("the day cannot be put into days/{name} yet: {why}"));
-        }
+        self.try_to_keep();
         Ok(name)
+    }
+
+    /// Puts the folder of the day before where it is kept; where that fails it stays where it is,
+    /// and saves go on.
+    fn try_to_keep(&mut self) {
+        let kept = self.keep_day_before();
+        self.found.unkept = kept.is_err();
+        if let Err(error) = kept {
+            let name = &self.found.generation.before;
+            self.said.retain(|said| said != &words::kept(name));
+            self.said.push(words::not_kept(name, &plain(&error)));
+        }
     }
 
     /// Whether the day's saves lead from its morning to the list.

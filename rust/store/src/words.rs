@@ -47,6 +47,11 @@ pub fn kept(name: &str) -> String {
     format!("the day before is put into days/{name}")
 }
 
+/// A day that could not be put there.
+pub fn not_kept(name: &str, why: &str) -> String {
+    format!("the day before cannot be put into days/{name} yet: {why}")
+}
+
 /// A store that could not be written, and what became of it.
 pub fn not_written(folder: &Path, why: &str, back: bool) -> String {
     let then = match back {

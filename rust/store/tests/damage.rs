@@ -211,6 +211,36 @@ fn a_sheet_of_other_rules_or_form_is_judged_again() {
     }
 }
 
+/// Where the days cannot be put, saves go on and no second day is closed.
+#[test]
+fn no_place_for_days() {
+    let folder = Folder::new("days");
+    let place = folder.join("box");
+    let states = five_saves(&place);
+    let list = &states[5].1;
+    fs::write(place.join("days"), b"somebody's file").unwrap();
+    let mut store = Store::write(&place, &Native).unwrap();
+    let name = store.close_day(list).unwrap();
+    let said =
+        |store: &Store| store.said.len() == 1 && store.said[0].contains("cannot be put into");
+    assert!(said(&store), "{:?}", store.said);
+    drop(store);
+    assert!(said(&open(&place)));
+    let mut store = Store::write(&place, &Native).unwrap();
+    assert!(said(&store));
+    store.save(1, list.record(2)).unwrap();
+    let list = store.filing().clone();
+    let trouble = store.close_day(&list).unwrap_err().to_string();
+    assert!(trouble.contains("nothing is changed"), "{trouble}");
+    drop(store);
+    assert_eq!(open(&place).saves(), 1);
+    fs::remove_file(place.join("days")).unwrap();
+    assert_eq!(open(&place).said, [format!("the day before is put into days/{name}")]);
+    assert_eq!(open(&place.join("days").join(name)).saves(), 5);
+    Store::write(&place, &Native).unwrap().close_day(&list).unwrap();
+    assert_eq!(fs::read_dir(place.join("days")).unwrap().count(), 2);
+}
+
 /// A disk that is full: whatever step fails, nothing is changed or all is, and what is said is so.
 #[test]
 fn a_step_that_fails() {
