@@ -11,6 +11,7 @@ use common::disks::Failing;
 use common::{any_save, filing, open, store_of, Folder, Random};
 use desk::SAVE_LENGTH;
 use owners::filings::Filing;
+use owners::status::Outcome;
 use store::disk::Native;
 use store::generation::Generation;
 use store::making::make;
@@ -194,9 +195,10 @@ fn a_sheet_of_other_rules_or_form_is_judged_again() {
     let mut wrong = sheet.to_vec();
     wrong[6] ^= 1;
     let form = [&sheet[..18], b"\x00\x1c\x03\x00\x00\x00\x00\x002B"].concat();
+    let rules = format!("was judged by rules 1, and today's are {}", desk::rules());
     let cases = [
-        (older.bytes(list, sheet), "was judged by rules 1, and today's are 2"),
-        (older.bytes(list, &form), "was judged by rules 1, and today's are 2"),
+        (older.bytes(list, sheet), &rules[..]),
+        (older.bytes(list, &form), &rules),
         (generation.bytes(list, &wrong), "was wrong at 6, the twin of station 2"),
         (generation.bytes(list, &form), "has 28 bytes, which are not those of today's form"),
         (generation.bytes(list, b""), "has 0 bytes, which are not those of today's form"),
@@ -241,65 +243,77 @@ fn no_place_for_days() {
     assert_eq!(fs::read_dir(place.join("days")).unwrap().count(), 2);
 }
 
-/// A disk that is full: whatever step fails, nothing is changed or all is, and what is said is so.
+/// A step of `new` fails: there is a store, or nothing, and that is said.
+fn failing_new(place: &Path, disk: &Failing) {
+    let done = make(place, &filing(6), disk);
+    let is_there = place.join("state").exists();
+    match done {
+        Ok(()) => assert!(is_there),
+        Err(trouble) => {
+            let said = trouble.to_string();
+            assert_eq!(place.exists(), is_there, "{said}");
+            assert_eq!(!is_there, said.contains("nothing is changed"), "{said}");
+        }
+    }
+    if !is_there {
+        store_of(place, 6);
+    }
+}
+
+/// A step of a change fails: where it is said that nothing is changed, nothing is.
+fn failing_change(place: &Path, disk: &Failing, change: fn(&mut Store) -> Outcome<()>) {
+    five_saves(place);
+    let list = open(place).filing().clone();
+    let done = change(&mut Store::write(place, disk).unwrap());
+    let Err(trouble) = done else {
+        assert_ne!(open(place).saves(), 5, "it was done");
+        return;
+    };
+    let said = trouble.to_string();
+    assert!(said.contains("cannot be written: no storage space"), "{said}");
+    if said.contains("nothing is changed") {
+        assert_eq!((open(place).saves(), open(place).filing()), (5, &list), "{said}");
+        assert!(!place.join("day-2").exists(), "{said}");
+    }
+}
+
+/// A save of a station.
+fn save(store: &mut Store) -> Outcome<()> {
+    let record = store.filing().record(3).to_vec();
+    store.save(1, &record).map(|_| ())
+}
+
+/// The end of a day.
+fn close_day(store: &mut Store) -> Outcome<()> {
+    let list = store.filing().clone();
+    store.close_day(&list).map(|_| ())
+}
+
+/// A disk that is full: whatever step fails, nothing is changed or all is, what is said is so, and
+/// all goes on when there is room again.
 #[test]
 fn a_step_that_fails() {
     let folder = Folder::new("full");
     let place = folder.join("box");
-    for for_good in [false, true] {
-        for what in 0..3 {
-            let mut step = 1;
-            loop {
-                let _ = fs::remove_dir_all(&place);
-                let disk = Failing::at(step, for_good);
-                let trouble = if what == 0 {
-                    make(&place, &filing(6), &disk).err()
-                } else {
-                    let states = five_saves(&place);
-                    let list = &states[5].1;
-                    let record = list.record(3);
-                    let mut store = Store::write(&place, &disk).unwrap();
-                    let done = match what {
-                        1 => store.save(1, record).map(|_| ()),
-                        _ => store.close_day(list).map(|_| ()),
-                    };
-                    drop(store);
-                    let saves = open(&place).saves();
-                    if let Err(trouble) = &done {
-                        let is_before = saves == 5;
-                        let said = trouble.to_string();
-                        let when = format!("step {step} of {what}: {said}");
-                        assert!(said.contains("cannot be written: no storage space"), "{when}");
-                        assert!(is_before || !said.contains("nothing is changed"), "{when}");
-                        if is_before && said.contains("nothing is changed") {
-                            assert_eq!(open(&place).filing(), list, "{when}");
-                            assert!(!place.join("day-2").exists(), "{when}");
-                        }
-                    } else if what == 1 {
-                        assert_eq!(saves, 6, "step {step}");
-                    }
-                    done.err()
-                };
-                if what == 0 && trouble.is_some() {
-                    let there = place.join("state").exists();
-                    let said = trouble.as_ref().unwrap().to_string();
-                    assert_eq!(place.exists(), there, "step {step}: {said}");
-                    assert_eq!(!there, said.contains("nothing is changed"), "step {step}: {said}");
-                }
-                if !place.exists() {
-                    store_of(&place, 6);
-                }
-                // All goes on when there is room again.
-                let before = open(&place).saves();
-                let record = filing(6).record(2).to_vec();
-                Store::write(&place, &Native).unwrap().save(2, &record).unwrap();
-                assert_eq!(open(&place).saves(), before + 1);
-                if !disk.has_failed() {
-                    assert!(trouble.is_none() && step > 8);
-                    break;
-                }
-                step += 1;
+    let tried: [fn(&Path, &Failing); 3] = [
+        failing_new,
+        |place, disk| failing_change(place, disk, save),
+        |place, disk| failing_change(place, disk, close_day),
+    ];
+    for (tried, for_good) in tried.into_iter().flat_map(|tried| [(tried, false), (tried, true)]) {
+        let mut step = 1;
+        loop {
+            let disk = Failing::at(step, for_good);
+            tried(&place, &disk);
+            let before = open(&place).saves();
+            save(&mut Store::write(&place, &Native).unwrap()).unwrap();
+            assert_eq!(open(&place).saves(), before + 1);
+            fs::remove_dir_all(&place).unwrap();
+            if !disk.has_failed() {
+                break;
             }
+            step += 1;
         }
+        assert!(step > 5, "only {step} steps failed");
     }
 }

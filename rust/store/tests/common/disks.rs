@@ -71,7 +71,7 @@ impl Stopping {
                 Unsynced::Stays => false,
                 Unsynced::IsLost => true,
                 Unsynced::IsZeros => matches!(undo, Undo::Cut(..)),
-                Unsynced::IsMixed(way) => (self.at + index + way) % 3 == 0,
+                Unsynced::IsMixed(way) => (self.at + index + way).is_multiple_of(3),
             };
             if undone {
                 // What stood in a file that is gone is gone with it.
