@@ -268,7 +268,8 @@ pub fn station_kind(record: &[u8]) -> (u8, u8, u8) {
 pub fn station_second(record: &[u8]) -> (u8, u8, u8) {
     let (mut code, mut kind) = (NO_CODE, NO_CODE);
     // SAFETY: the pointer is good for the length of its slice; the answers are places of our own.
-    let refusal = unsafe { desk_station_second(record.as_ptr(), record.len(), &mut code, &mut kind) };
+    let refusal =
+        unsafe { desk_station_second(record.as_ptr(), record.len(), &mut code, &mut kind) };
     (refusal, code, kind)
 }
 
