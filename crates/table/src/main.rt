@@ -63,8 +63,14 @@ fn print_entries(entries: &[[usize; 6]]) {
 }
 
 fn main() {
-    io::write_all(1, b"# The rules of a station as they run\n\nPrinted by the program `table` from the numbers that the second judge walks.\n\n");
-    io::write_all(1, b"| code | field | first column, length | kind | range | blank |\n|---|---|---|---|---|---|\n");
+    io::write_all(
+        1,
+        b"# The rules of a station as they run\n\nPrinted by the program `table` from the numbers that the second judge walks.\n\n",
+    );
+    io::write_all(
+        1,
+        b"| code | field | first column, length | kind | range | blank |\n|---|---|---|---|---|---|\n",
+    );
     print_entries(&ENTRIES);
     io::write_all(1, b"\n## Between fields\n\n");
     print_rows(&ROWS);
