@@ -45,7 +45,7 @@ bits-same a b fa fb = by-case (sameCount a b) refl
 -- A place is the same as itself,
 place-same : (p : Located) → samePlace p p ≡ true
 unfolding samePlace
-place-same located.Bad = refl
+place-same (located.Bad wrong) = refl
 place-same (located.Filled p) = rw (count-same (p .east), count-same (p .north))
 
 -- so that stations with the same bytes for place and height stand alike.

@@ -24,9 +24,9 @@ samePosition p q = sameCount (p .east) (q .east) && sameCount (p .north) (q .nor
 
 -- Two stations say one place: the same position, or neither says any.
 unfoldable pub samePlace : Located → Located → Bool
-samePlace located.Bad located.Bad = true
-samePlace located.Bad (located.Filled q) = false
-samePlace (located.Filled p) located.Bad = false
+samePlace (located.Bad wrong) (located.Bad other) = true
+samePlace (located.Bad wrong) (located.Filled q) = false
+samePlace (located.Filled p) (located.Bad wrong) = false
 samePlace (located.Filled p) (located.Filled q) = samePosition p q
 
 -- Stations i and k stand at one place, 4C, and one height above ground, 9Y.

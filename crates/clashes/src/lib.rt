@@ -72,12 +72,12 @@ fn same_place(a: Located, b: Located) -> bool
     ensures { λ r. ⌜ r ≡ samePlace a b ⌝ }
 {
     match a {
-        Located::Bad => match b {
-            Located::Bad => true,
+        Located::Bad(_) => match b {
+            Located::Bad(_) => true,
             Located::Filled(_) => false,
         },
         Located::Filled(p) => match b {
-            Located::Bad => false,
+            Located::Bad(_) => false,
             Located::Filled(q) => same_position(p, q),
         },
     }

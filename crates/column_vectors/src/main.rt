@@ -87,7 +87,7 @@ fn write_height(v: i64) {
 // A whole number with a sign, and its spelling in four columns.
 fn signed(s: &[u8], only_written: bool) {
     match numerals::read_signed(s) {
-        Signed::Bad => put(b" bad\n"),
+        Signed::Bad(_) => put(b" bad\n"),
         Signed::Blank => put(b" blank\n"),
         Signed::Filled(v) => {
             if !only_written {
@@ -123,7 +123,7 @@ fn write_format(format: Format, space: &mut [u8], v: i64) {
 // A decimal, and its spelling.
 fn decimal(format: Format, s: &[u8]) {
     match formats::read_decimal(format, s) {
-        Signed::Bad => put(b" bad\n"),
+        Signed::Bad(_) => put(b" bad\n"),
         Signed::Blank => put(b" blank\n"),
         Signed::Filled(v) => {
             put(b" ");
@@ -137,7 +137,7 @@ fn decimal(format: Format, s: &[u8]) {
 // A typed number, written as a decimal.
 fn typed(format: Format, s: &[u8]) {
     match numerals::read_signed(s) {
-        Signed::Bad => put(b" bad\n"),
+        Signed::Bad(_) => put(b" bad\n"),
         Signed::Blank => put(b" blank\n"),
         Signed::Filled(v) => {
             let mut space = [0u8; 16];
@@ -149,7 +149,7 @@ fn typed(format: Format, s: &[u8]) {
 // A date, and its spelling.
 fn date(s: &[u8]) {
     match days::dates::read_date(s) {
-        Dated::Bad => put(b" bad\n"),
+        Dated::Bad(_) => put(b" bad\n"),
         Dated::Blank => put(b" blank\n"),
         Dated::Filled(d) => {
             put(b" ");
@@ -179,7 +179,7 @@ fn write_position(p: Position) {
 // A position, and its spelling.
 fn position(s: &[u8]) {
     match positions::read_position(s) {
-        Located::Bad => put(b" bad\n"),
+        Located::Bad(_) => put(b" bad\n"),
         Located::Filled(p) => {
             put(b" ");
             put_number(p.east);

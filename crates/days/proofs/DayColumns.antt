@@ -13,7 +13,7 @@ use Rattle.columns.specs.Sets.{isDigit}
 use Rattle.columns.specs.Texts.{skip, blank, every, each}
 use Rattle.numerals.specs.Numbers.{number, spellDigits, spellWhole}
 use Rattle.days.specs.Calendar.{daysIn}
-use Rattle.days.specs.Dates.{within, dateBy, dateRule, dateIn, dateOf, dayPasses, dateFilled, inDay, spellDate, dayGood, dayOf, dayFits, spellDay, dateGood, dateFits}
+use Rattle.days.specs.Dates.{within, dateBy, dateRule, dateIn, dateReads, dateOf, dayPasses, dateFilled, inDay, spellDate, dayGood, dayOf, dayFits, spellDay, dateGood, dateFits}
 use Rattle.days.specs.declared.dates.Date.{Date}
 use Rattle.days.specs.declared.dates.Dated.{Dated}
 use Rattle.days.specs.declared.dates.Dated.the-variants as dated
@@ -103,7 +103,7 @@ digits-filled (c ∷ p) e h = let r = digit-range c (and-split (isDigit c) (ever
 
 -- so it is read as that date
 date-trip : (d : Date) → dateRule d ≡ true → dateOf (spellDate d) ≡ dated.Filled d
-unfolding dateOf
+unfolding dateOf dateReads
 date-trip d e =
     let g = and-split (eqb (length (spellDate d)) 8) (every isDigit (spellDate d)) (sym (each-replicate 8 isDigit (spellDate d)) ∙ date-spelled d) in
     let n : length (spellDate d) ≡ 8 = eqb-true (length (spellDate d)) 8 (g .0) in
@@ -111,12 +111,12 @@ date-trip d e =
 
 -- a date that was read keeps its rule
 abbrev KeepsRule : Dated → Type 0
-KeepsRule dated.Bad = Unit {0}
+KeepsRule (dated.Bad wrong) = Unit {0}
 KeepsRule dated.Blank = Unit {0}
 KeepsRule (dated.Filled d) = dateRule d ≡ true
 
 date-keeps : (p : List ℕ) → KeepsRule (dateOf p)
-unfolding dateOf
+unfolding dateOf dateReads
 date-keeps p =
     cond-case KeepsRule (blank p) (λ e. tt)
     (λ e. cond-case KeepsRule (each (replicate 8 isDigit) p && dateRule (dateIn p)) (λ f. and-split (each (replicate 8 isDigit) p) (dateRule (dateIn p)) f .1) (λ f. tt))
@@ -145,7 +145,7 @@ day-read : (p : List ℕ) → dayGood p ≡ true → dayFits (dayOf p) ≡ true
 unfolding dayGood dayOf dayFits
 day-read p e = by (dateOf p) (date-keeps p) e where
   by : (d : Dated) → KeepsRule d → dayPasses d ≡ true → dayFits (inDay d) ≡ true
-  by dated.Bad k e = absurd (false≢true e)
+  by (dated.Bad wrong) k e = absurd (false≢true e)
   by dated.Blank k e = refl
   by (dated.Filled d) k e = k
 
@@ -167,7 +167,7 @@ date-read : (p : List ℕ) → dateGood p ≡ true → dateFits (dayOf p) ≡ tr
 unfolding dateGood dayOf dateFits
 date-read p e = by (dateOf p) (date-keeps p) e where
   by : (d : Dated) → KeepsRule d → dateFilled d ≡ true → dateFits (inDay d) ≡ true
-  by dated.Bad k e = absurd (false≢true e)
+  by (dated.Bad wrong) k e = absurd (false≢true e)
   by dated.Blank k e = absurd (false≢true e)
   by (dated.Filled d) k e = k
 

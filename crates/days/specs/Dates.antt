@@ -6,7 +6,10 @@ use lib.ListN.{take, drop, replicate}
 use lib.Dec.{leb}
 use Rattle.columns.specs.Sets.{isDigit}
 use Rattle.columns.specs.Texts.{blank, each}
-use Rattle.numerals.specs.Numbers.{number, spellDigits}
+use Rattle.flaws.specs.Flaws.{unread}
+use Rattle.flaws.specs.declared.Flaw.{Flaw}
+use Rattle.flaws.specs.declared.Flaw.the-variants as flaw
+use Rattle.numerals.specs.Numbers.{number, admitsWhole, spellDigits}
 use Rattle.days.specs.Calendar.{daysIn}
 use Rattle.days.specs.declared.dates.Date.{Date}
 use Rattle.days.specs.declared.dates.Dated.{Dated}
@@ -30,27 +33,35 @@ dateRule d = dateBy daysIn d
 unfoldable pub dateIn : List ℕ → Date
 dateIn p = record { day = number (take 2 p); month = number (take 2 (drop 2 p)); year = number (take 4 (drop 4 p)) }
 
+-- Eight digits can be read, whether they are a day or not.
+unfoldable pub dateReads : List ℕ → Bool
+dateReads p = each (replicate 8 isDigit) p
+
+-- What is wrong with what is no date: eight digits are outside the calendar, anything else has the flaw of its bytes.
+unfoldable pub unreadDate : List ℕ → Flaw
+unreadDate p = cond (dateReads p) flaw.Range (unread (admitsWhole false) p)
+
 -- What a date's columns say.
 unfoldable pub dateOf : List ℕ → Dated
 dateOf p =
     cond (blank p) dated.Blank
-    (cond (each (replicate 8 isDigit) p && dateRule (dateIn p)) (dated.Filled (dateIn p)) dated.Bad)
+    (cond (dateReads p && dateRule (dateIn p)) (dated.Filled (dateIn p)) (dated.Bad (unreadDate p)))
 
 -- A date or blank passes.
 abbrev pub dayPasses : Dated → Bool
-dayPasses dated.Bad = false
+dayPasses (dated.Bad wrong) = false
 dayPasses dated.Blank = true
 dayPasses (dated.Filled d) = true
 
 -- A date passes.
 abbrev pub dateFilled : Dated → Bool
-dateFilled dated.Bad = false
+dateFilled (dated.Bad wrong) = false
 dateFilled dated.Blank = false
 dateFilled (dated.Filled d) = true
 
 -- The answer as a typed value; what cannot be read is never taken for one.
 abbrev pub inDay : Dated → Day
-inDay dated.Bad = day.Blank
+inDay (dated.Bad wrong) = day.Blank
 inDay dated.Blank = day.Blank
 inDay (dated.Filled d) = day.Filled d
 

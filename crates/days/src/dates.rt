@@ -4,6 +4,8 @@ use columns::sets::Set;
 use columns::texts::all_in;
 use columns::texts::is_blank;
 use columns::texts::write_blank;
+use flaws::Flaw;
+use flaws::unread_of;
 use numerals::digits;
 use numerals::put_digits;
 ghost use mathlib.Core.Path.{_≡_};
@@ -22,9 +24,9 @@ pub struct Date {
     pub year: u16,
 }
 
-// A date, read from its columns.
+// A date, read from its columns, or what is wrong with them.
 pub enum Dated {
-    Bad,
+    Bad(Flaw),
     Blank,
     Filled(Date),
 }
@@ -88,16 +90,16 @@ pub fn read_date(s: &[u8]) -> Dated
         return Dated::Blank;
     }
     if s.len() != 8 {
-        return Dated::Bad;
+        return Dated::Bad(unread_of(b"0123456789 ", s));
     }
     if !all_in(Set::Digit, s) {
-        return Dated::Bad;
+        return Dated::Bad(unread_of(b"0123456789 ", s));
     }
     let d = date_in(s);
     if is_date(d) {
         Dated::Filled(d)
     } else {
-        Dated::Bad
+        Dated::Bad(Flaw::Range)
     }
 }
 
@@ -106,7 +108,7 @@ pub fn is_day(s: &[u8]) -> bool
     ensures { λ r. ⌜ r ≡ dayGood (now (s .entry)) ⌝ }
 {
     match read_date(s) {
-        Dated::Bad => false,
+        Dated::Bad(_) => false,
         Dated::Blank => true,
         Dated::Filled(_) => true,
     }
@@ -117,7 +119,7 @@ pub fn is_dated(s: &[u8]) -> bool
     ensures { λ r. ⌜ r ≡ dateGood (now (s .entry)) ⌝ }
 {
     match read_date(s) {
-        Dated::Bad => false,
+        Dated::Bad(_) => false,
         Dated::Blank => false,
         Dated::Filled(_) => true,
     }
@@ -128,7 +130,7 @@ pub fn day_in(s: &[u8]) -> Day
     ensures { λ r. ⌜ r ≡ dayOf (now (s .entry)) ⌝ }
 {
     match read_date(s) {
-        Dated::Bad => Day::Blank,
+        Dated::Bad(_) => Day::Blank,
         Dated::Blank => Day::Blank,
         Dated::Filled(d) => Day::Filled(d),
     }

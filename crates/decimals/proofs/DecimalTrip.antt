@@ -11,7 +11,7 @@ use lib.Seq.{drop-at}
 use lib.IntN.{ℤ, pos, negsuc, natAbs}
 use Rattle.columns.specs.Texts.{head, ended, skip, every}
 use Rattle.numerals.specs.Numbers.{leading, numberFrom, number, spellDigits, isNegative}
-use Rattle.decimals.specs.Decimals.{fractionOf, magnitudeOf, decimalOf, spellMagnitude, spellDecimal, decimalWidth}
+use Rattle.decimals.specs.Decimals.{fractionOf, magnitudeOf, admitsDecimal, decimalOf, spellMagnitude, spellDecimal, decimalWidth}
 use Rattle.numerals.specs.declared.Whole.the-variants as whole
 use Rattle.numerals.specs.declared.Signed.the-variants as signed
 use Rattle.numerals.proofs.NumberLaws.{leading-all}
@@ -44,9 +44,9 @@ magnitude-begins (suc a) b m =
 -- the theorem: what is written of a number in range is read as that number
 pub decimal-trip : (a b : ℕ) (sign : Bool) (z : ℤ) → 1 ≤ b → natAbs z < 10 ^ (a + b) → (isNegative z ≡ true → sign ≡ true) → decimalOf a b sign (spellDecimal a b sign z) ≡ signed.Filled z
 unfolding decimalOf spellDecimal skip
-decimal-trip a b true (pos n) one h s = let g = magnitude-begins a b n in plain-trip true (magnitudeOf a b) (spellMagnitude a b n) n (g .0) (g .1) (magnitude-trip a b n one h)
-decimal-trip a b true (negsuc n) one h s = minus-trip (magnitudeOf a b) (spellMagnitude a b (suc n)) (suc n) (magnitude-trip a b (suc n) one h)
-decimal-trip a b false (pos n) one h s = let g = magnitude-begins a b n in plain-trip false (magnitudeOf a b) (spellMagnitude a b n) n (g .0) (g .1) (magnitude-trip a b n one h)
+decimal-trip a b true (pos n) one h s = let g = magnitude-begins a b n in plain-trip true (admitsDecimal true) (magnitudeOf a b) (32 ∷ spellMagnitude a b n) (spellMagnitude a b n) n refl (g .0) (g .1) (magnitude-trip a b n one h)
+decimal-trip a b true (negsuc n) one h s = minus-trip (admitsDecimal true) (magnitudeOf a b) (spellMagnitude a b (suc n)) (suc n) (magnitude-trip a b (suc n) one h)
+decimal-trip a b false (pos n) one h s = let g = magnitude-begins a b n in plain-trip false (admitsDecimal false) (magnitudeOf a b) (spellMagnitude a b n) (spellMagnitude a b n) n refl (g .0) (g .1) (magnitude-trip a b n one h)
 decimal-trip a b false (negsuc n) one h s = absurd (false≢true (s refl))
 
 -- it has its columns

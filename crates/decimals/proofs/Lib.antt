@@ -2,3 +2,4 @@ pub mod DecimalLaws
 pub mod DecimalSpelling
 pub mod DecimalTrip
 pub mod DecimalColumn
+pub mod Letters

@@ -7,7 +7,7 @@ use lib.Dec.{ltb}
 use lib.IntN.{ℤ, natAbs}
 use Rattle.columns.specs.Sets.{is}
 use Rattle.columns.specs.Texts.{head, tail, ended, blank}
-use Rattle.numerals.specs.Numbers.{leading, after, number, numberFrom, numberOf, isNegative, spellDigits}
+use Rattle.numerals.specs.Numbers.{leading, after, number, numberFrom, numberOf, admitsWhole, isNegative, spellDigits}
 use Rattle.numerals.specs.declared.Whole.{Whole}
 use Rattle.numerals.specs.declared.Whole.the-variants as whole
 use Rattle.numerals.specs.declared.Signed.{Signed}
@@ -24,9 +24,13 @@ magnitudeOf a b t =
     let point = after a t in
     cond (is "." (head point)) (fractionOf b (number (leading a t)) (tail point)) whole.Bad
 
+-- The bytes that a decimal admits.
+unfoldable pub admitsDecimal : Bool → ℕ → Bool
+admitsDecimal sign c = admitsWhole sign c || is "." c
+
 -- Decimal with a digits before the point and b after.
 unfoldable pub decimalOf : ℕ → ℕ → Bool → List ℕ → Signed
-decimalOf a b sign p = numberOf sign (magnitudeOf a b) p
+decimalOf a b sign p = numberOf sign (admitsDecimal sign) (magnitudeOf a b) p
 
 -- v units of the b-th place: a digits, a point, b digits.
 unfoldable pub spellMagnitude : ℕ → ℕ → ℕ → List ℕ

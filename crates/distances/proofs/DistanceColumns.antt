@@ -7,7 +7,7 @@ use native.Mathlib.Omega.{arith}
 use lib.ListN.{length, replicate}
 use lib.IntN.{ℤ, pos, negsuc, natAbs}
 use borrow.Author.Tests.{lt-ltb, leb-true}
-use Rattle.numerals.specs.Numbers.{wholeDigits, wholeOf, amount, wholeFilled, passes, signedOf, isNegative, wholeFits, signedFits, spellWhole, spellSigned}
+use Rattle.numerals.specs.Numbers.{wholeDigits, wholeOf, amount, wholeFilled, passes, signedOf, isNegative, wholeFits, signedFits, spellWhole, spellSigned, admitsWhole}
 use Rattle.numerals.specs.declared.Signed.{Signed}
 use Rattle.numerals.specs.declared.Signed.the-variants as signed
 use Rattle.columns.proofs.TextLaws.{and-split}
@@ -61,7 +61,7 @@ height-places (negsuc n) e = lt-ltb (suc n) (10 ^ 3) (omega (arith, leb-true (su
 
 spaces-no-height : signedOf (replicate 4 32) ≡ signed.Blank
 unfolding signedOf
-spaces-no-height = number-of-spaces true wholeDigits 4
+spaces-no-height = number-of-spaces true (admitsWhole true) wholeDigits 4
 
 height-trip : (z : ℤ) → heightRange z ≡ true → signedOf (spellSigned 4 z) ≡ signed.Filled z
 height-trip z e = signed-trip 4 z (omega arith) (height-places z e)
@@ -88,7 +88,7 @@ height-read : (p : List ℕ) → heightGood p ≡ true → heightFits (heightOf 
 unfolding heightGood heightOf heightFits
 height-read p e = by (signedOf p) e where
   by : (d : Signed) → passes heightRange d ≡ true → heightFits (inMetres d) ≡ true
-  by signed.Bad e = absurd (false≢true e)
+  by (signed.Bad wrong) e = absurd (false≢true e)
   by signed.Blank e = refl
   by (signed.Filled z) e = e
 

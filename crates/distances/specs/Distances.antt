@@ -43,7 +43,7 @@ heightRange z = leb (natAbs z) (cond (isNegative z) 999 9999)
 
 -- The answer as a typed value; what cannot be read is never taken for a number.
 abbrev pub inMetres : Signed → Height
-inMetres signed.Bad = height.Blank
+inMetres (signed.Bad wrong) = height.Blank
 inMetres signed.Blank = height.Blank
 inMetres (signed.Filled z) = height.Filled (record { 0 = z })
 

@@ -88,7 +88,7 @@ pub fn is_height(s: &[u8]) -> bool
     ensures { λ r. ⌜ r ≡ heightGood (now (s .entry)) ⌝ }
 {
     match read_signed(s) {
-        Signed::Bad => false,
+        Signed::Bad(_) => false,
         Signed::Blank => true,
         Signed::Filled(z) => fits_signed(4, z),
     }
@@ -99,7 +99,7 @@ pub fn read_height(s: &[u8]) -> Height
     ensures { λ r. ⌜ r ≡ heightOf (now (s .entry)) ⌝ }
 {
     match read_signed(s) {
-        Signed::Bad => Height::Blank,
+        Signed::Bad(_) => Height::Blank,
         Signed::Blank => Height::Blank,
         Signed::Filled(z) => Height::Filled(Metres(z)),
     }

@@ -3,7 +3,7 @@ use mathlib.Core.Path.{refl}
 use Rattle.columns.specs.Sets.{among, isText, isMail}
 use Rattle.columns.specs.Texts.{skip, every, each, byteGood, same, textGood}
 use Rattle.numerals.specs.Numbers.{leading, numberFrom, wholeDigits, wholeOf, spellDigits}
-use Rattle.days.specs.Dates.{dateRule, dateIn, dateOf, dayOf, dateGood, spellDate, spellDay}
+use Rattle.days.specs.Dates.{dateRule, dateIn, dateReads, dateOf, dayOf, dateGood, spellDate, spellDay}
 use Rattle.serials.specs.Serials.{serialGood, serialOf, spellSerial}
 use Rattle.basics.specs.Rules.{firstBroken}
 use Rattle.basics.specs.Outcomes.{refusal, ifDone, firstRefusal}
@@ -18,7 +18,7 @@ use Rattle.header.specs.Codes.{headerValue, headerCode}
 use Rattle.figures.specs.Faxes.{NoFax}
 
 pub no-fax : NoFax
-unfolding among isText isMail skip every each byteGood same textGood leading numberFrom wholeDigits wholeOf spellDigits dateRule dateIn dateOf dayOf dateGood spellDate spellDay serialGood serialOf spellSerial firstBroken refusal ifDone firstRefusal stations recordAt tooLong notRecords placesOf fieldAt fieldCount showOutcome shownField headerFields headerRules headerOf headerPieces spellHeader headerValue headerCode
+unfolding among isText isMail skip every each byteGood same textGood leading numberFrom wholeDigits wholeOf spellDigits dateRule dateIn dateReads dateOf dayOf dateGood spellDate spellDay serialGood serialOf spellSerial firstBroken refusal ifDone firstRefusal stations recordAt tooLong notRecords placesOf fieldAt fieldCount showOutcome shownField headerFields headerRules headerOf headerPieces spellHeader headerValue headerCode
 no-fax = record {
   filled-passes = refl;
   blank-passes = refl;

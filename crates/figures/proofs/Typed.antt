@@ -4,7 +4,7 @@ use Rattle.columns.specs.Sets.{among, isHex, isNarrow, isText, isName, isMail}
 use Rattle.columns.specs.Texts.{skip, trimmed, every, howMany, each, byteGood, same, oneOf, textGood}
 use Rattle.numerals.specs.Numbers.{leading, numberFrom, wholeDigits, wholeOf, unsigned, signedOf, spellDigits, spellSigned}
 use Rattle.decimals.specs.Decimals.{fractionOf, magnitudeOf, decimalOf, spellMagnitude, spellDecimal}
-use Rattle.days.specs.Dates.{dateRule, dateIn, dateOf, dayGood, dayOf, dateGood, dayFits, spellDate, spellDay}
+use Rattle.days.specs.Dates.{dateRule, dateIn, dateReads, dateOf, dayGood, dayOf, dateGood, dayFits, spellDate, spellDay}
 use Rattle.formats.specs.Tenths.{tenthsGood, tenthsOf, tenthsFit, spellTenths}
 use Rattle.frequencies.specs.Frequencies.{amountGood, unitGood, unitOf, frequencyOf, frequencyFits, unitLetter, spellAmount, spellUnit}
 use Rattle.distances.specs.Distances.{radiusOf, groundOf, heightGood, heightOf, radiusFits, groundFits, heightFits, spellRadius, spellGround, spellHeight}
@@ -42,7 +42,7 @@ use Rattle.station.specs.Calls.{readOutcome, readStation, writeOutcome, written
 use Rattle.figures.specs.Typed.{TypedWorked}
 
 pub typed-worked : TypedWorked
-unfolding among isHex isNarrow isText isName skip trimmed every howMany each byteGood same oneOf leading numberFrom wholeDigits wholeOf unsigned signedOf fractionOf magnitudeOf decimalOf dateRule dateIn dateOf dayGood dayOf tenthsGood tenthsOf amountGood unitGood unitOf frequencyOf radiusOf groundOf heightGood heightOf arcSeconds arcGood arcOf positionGood positionOf bandwidthGood detailGood emissionGood cellGood installationGood remarksGood firstBroken fieldsOf fieldRules roundAntenna betweenRules stationOf valueOf stationCode isMail textGood dateGood serialGood serialOf headerOf headerFields headerRules headerValue headerCode filedHeaderCode stations recordAt withRecord referenceAt codeAt tooLong notRecords placesOf fieldAt fieldCount twinAt rowOf rowAt badAt trailerOf closed judgedSheet sheetOf headAt fitsForm touched mendedRow replacing.mendedSheet writes rowsWritten refusal codeWith ifDone firstRefusal replaceOutcome replacedSheet replacedRows showOutcome shownField frequencyFits dayFits radiusFits groundFits heightFits positionFits tenthsFit typedRules typedCode spellDigits spellMagnitude spellDecimal spellSigned spellDate spellDay spellTenths unitLetter spellAmount spellUnit spellRadius spellGround spellHeight spellArc spellPosition stationPieces spellStation trimmedField paddedField lineOf before behind split lineFields isLine lines.recordOf lineOutcome stationInLine readOutcome readStation writeOutcome writtenStation setOutcome setStation emptyStation judged
+unfolding among isHex isNarrow isText isName skip trimmed every howMany each byteGood same oneOf leading numberFrom wholeDigits wholeOf unsigned signedOf fractionOf magnitudeOf decimalOf dateRule dateIn dateReads dateOf dayGood dayOf tenthsGood tenthsOf amountGood unitGood unitOf frequencyOf radiusOf groundOf heightGood heightOf arcSeconds arcGood arcOf positionGood positionOf bandwidthGood detailGood emissionGood cellGood installationGood remarksGood firstBroken fieldsOf fieldRules roundAntenna betweenRules stationOf valueOf stationCode isMail textGood dateGood serialGood serialOf headerOf headerFields headerRules headerValue headerCode filedHeaderCode stations recordAt withRecord referenceAt codeAt tooLong notRecords placesOf fieldAt fieldCount twinAt rowOf rowAt badAt trailerOf closed judgedSheet sheetOf headAt fitsForm touched mendedRow replacing.mendedSheet writes rowsWritten refusal codeWith ifDone firstRefusal replaceOutcome replacedSheet replacedRows showOutcome shownField frequencyFits dayFits radiusFits groundFits heightFits positionFits tenthsFit typedRules typedCode spellDigits spellMagnitude spellDecimal spellSigned spellDate spellDay spellTenths unitLetter spellAmount spellUnit spellRadius spellGround spellHeight spellArc spellPosition stationPieces spellStation trimmedField paddedField lineOf before behind split lineFields isLine lines.recordOf lineOutcome stationInLine readOutcome readStation writeOutcome writtenStation setOutcome setStation emptyStation judged
 typed-worked = record {
   read-ends = refl;
   written-ends = refl;

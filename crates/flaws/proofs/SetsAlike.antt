@@ -2,7 +2,7 @@
 use mathlib.Core.Path.{_≡_, refl, sym, ap, _∙_}
 use mathlib.Core.Logic.{_⊎_, inl, inr}
 use mathlib.Core.Bool.{Bool, true, false, cond, _&&_, _||_, Bool·beq, and-false}
-use mathlib.Core.List.{List, [], _∷_, _++_}
+use mathlib.Core.List.{List, [], _∷_}
 use Prim.Native.Nat.{ℕ, zero, suc, _≤_, _<_}
 use Prim.Native.Char.{Char, code}
 use Prim.Native.String.{String}
@@ -14,7 +14,6 @@ use borrow.Author.Tests.{ltb-true, ltb-false, lt-leb, ne-eqb}
 use Rattle.columns.specs.Sets.{is, among, between}
 use Rattle.columns.specs.Texts.{bytes, every}
 use Rattle.flaws.specs.Flaws.{letterOf, unread}
-use Rattle.flaws.specs.Parts.{inSome}
 
 -- both answer the same below n
 abbrev pub agreeing : (ℕ → Bool) → (ℕ → Bool) → ℕ → Bool
@@ -71,7 +70,7 @@ far-letters (x ∷ xs) t c h =
     let b : x < 256 = ltb-true x 256 (low-true (ltb x 256) (and-left (ltb x 256) (lettersLow xs) t)) in
     far-or (eqb c x) (letterOf xs c) (ne-eqb c x (λ q. absurd (omega arith))) (far-letters xs (and-right (ltb x 256) (lettersLow xs) t) c h)
 
--- A literal's bytes are its letters,
+-- A literal's bytes are its letters.
 pub among-letters : (s : String) (c : ℕ) → among s c ≡ letterOf (bytes s) c
 unfolding among letterOf
 among-letters string.[] c = refl
@@ -79,24 +78,6 @@ among-letters (string._∷_ x s) c = ap (λ (b : Bool). is x c || b) (among-lett
 
 pub far-among : (s : String) → T (lettersLow (bytes s)) → Bytes (among s)
 far-among s t c h = among-letters s c ∙ far-letters (bytes s) t c h
-
--- and those of some literals are the letters of all.
-abbrev pub allBytes : List String → List ℕ
-allBytes [] = []
-allBytes (x ∷ xs) = bytes x ++ allBytes xs
-
-letters-joined : (a b : List ℕ) (c : ℕ) → (letterOf a c || letterOf b c) ≡ letterOf (a ++ b) c
-unfolding letterOf
-letters-joined [] b c = refl
-letters-joined (x ∷ a) b c = by (eqb c x) (letterOf a c) (letterOf b c) (letterOf (a ++ b) c) (letters-joined a b c) where
-  by : (x y z w : Bool) → (y || z) ≡ w → ((x || y) || z) ≡ (x || w)
-  by true y z w e = refl
-  by false y z w e = e
-
-pub some-letters : (xs : List String) (c : ℕ) → inSome xs c ≡ letterOf (allBytes xs) c
-unfolding inSome letterOf
-some-letters [] c = refl
-some-letters (x ∷ xs) c = rw (among-letters x c, some-letters xs c) (letters-joined (bytes x) (allBytes xs) c)
 
 -- Two sets of bytes that agree on the 256 bytes agree.
 pub alike : (S R : ℕ → Bool) → Bytes S → Bytes R → T (agreeing S R 256) → (c : ℕ) → S c ≡ R c

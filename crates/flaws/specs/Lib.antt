@@ -1,3 +1,1 @@
 pub mod Flaws
-pub mod Parts
-pub mod Examples

@@ -37,7 +37,7 @@ module _ (a b : ℕ) (sign : Bool) (range : ℤ → Bool) (one : 1 ≤ b) where
 
   tenths-fits : (d : Signed) → HasPlaces a b sign d → passes range d ≡ true → tenthsFit a b sign range (inTenths d) ≡ true
   unfolding tenthsFit
-  tenths-fits signed.Bad h e = absurd (false≢true e)
+  tenths-fits (signed.Bad wrong) h e = absurd (false≢true e)
   tenths-fits signed.Blank h e = refl
   tenths-fits (signed.Filled z) h e = and-both (decimalFits a b sign z) (range z) h e
 

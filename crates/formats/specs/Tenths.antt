@@ -22,7 +22,7 @@ upTo n z = leb (natAbs z) n
 
 -- The answer as a typed value; what cannot be read is never taken for a number.
 abbrev pub inTenths : Signed → Tenths
-inTenths signed.Bad = tenths.Blank
+inTenths (signed.Bad wrong) = tenths.Blank
 inTenths signed.Blank = tenths.Blank
 inTenths (signed.Filled z) = tenths.Filled z
 

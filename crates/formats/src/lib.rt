@@ -81,7 +81,12 @@ pub fn read_decimal(format: Format, s: &[u8]) -> Signed
     let sign = may_sign(format);
     let t = &s[i..];
     let minus = has_minus(sign, t);
-    in_sign(minus, magnitude_of(after_sign(sign, t), a, b))
+    let w = magnitude_of(after_sign(sign, t), a, b);
+    if sign {
+        in_sign(minus, w, b"0123456789.+- ", s)
+    } else {
+        in_sign(minus, w, b"0123456789. ", s)
+    }
 }
 
 // How many columns a format has.

@@ -79,7 +79,7 @@ frequency-back (frequency.Filled n u) e = rw (amount-trip n e .0) (ap (λ (x : H
 
 frequency-fits : (d : Signed) (u : Hertz) → HasPlaces 5 5 false d → passes aboveZero d ≡ true → frequencyFits (inUnit d u) ≡ true
 unfolding frequencyFits
-frequency-fits signed.Bad u h e = absurd (false≢true e)
+frequency-fits (signed.Bad wrong) u h e = absurd (false≢true e)
 frequency-fits signed.Blank u h e = refl
 frequency-fits (signed.Filled z) u h e =
     let g = and-split (ltb (natAbs z) (10 ^ (5 + 5))) (not (isNegative z)) h in

@@ -40,7 +40,7 @@ unitLetter hertz.Giga = code "G"
 
 -- An answer and its unit as a typed value.
 abbrev pub inUnit : Signed → Hertz → Frequency
-inUnit signed.Bad u = frequency.Blank
+inUnit (signed.Bad wrong) u = frequency.Blank
 inUnit signed.Blank u = frequency.Blank
 inUnit (signed.Filled z) u = frequency.Filled (natAbs z) u
 

@@ -31,7 +31,7 @@ pub fn is_amount(p: &[u8]) -> bool
     ensures { λ r. ⌜ r ≡ amountGood (now (p .entry)) ⌝ }
 {
     match read_decimal(Format::Frequency, p) {
-        Signed::Bad => false,
+        Signed::Bad(_) => false,
         Signed::Blank => true,
         Signed::Filled(v) => 0 < magnitude(v),
     }
@@ -90,7 +90,7 @@ pub fn read_frequency(p: &[u8], q: &[u8]) -> Frequency
     ensures { λ r. ⌜ r ≡ frequencyOf (now (p .entry)) (now (q .entry)) ⌝ }
 {
     match read_decimal(Format::Frequency, p) {
-        Signed::Bad => Frequency::Blank,
+        Signed::Bad(_) => Frequency::Blank,
         Signed::Blank => Frequency::Blank,
         Signed::Filled(v) => Frequency::Filled(magnitude(v), unit_of(byte(q, 0))),
     }

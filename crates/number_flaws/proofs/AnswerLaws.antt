@@ -7,35 +7,39 @@ use native.Mathlib.Omega.{arith}
 use lib.IntN.{ℤ}
 use lib.ListN.{length, replicate}
 use Rattle.columns.specs.Sets.{among, isDigit}
-use Rattle.columns.specs.Texts.{blank, every, each, byteGood}
+use Rattle.columns.specs.Texts.{bytes, blank, every, each, byteGood}
 use Rattle.columns.proofs.TextLaws.{and-split, cond-case}
+use Rattle.numerals.specs.Numbers.{admitsWhole}
+use Rattle.numerals.proofs.NumberLaws.{Carries}
 use Rattle.numerals.specs.declared.Signed.{Signed}
 use Rattle.numerals.specs.declared.Signed.the-variants as signed
-use Rattle.days.specs.Dates.{dateOf, dateIn, dateRule}
+use Rattle.days.specs.Dates.{dateReads, unreadDate, dateOf, dateIn, dateRule}
 use Rattle.days.specs.declared.dates.Dated.{Dated}
 use Rattle.days.specs.declared.dates.Dated.the-variants as dated
 use Rattle.frequencies.specs.Frequencies.{unitGood}
-use Rattle.positions.specs.Positions.{positionGood}
+use Rattle.positions.specs.Positions.{positionGood, admitsPosition, positionReads, unreadPosition, locatedOf}
+use Rattle.positions.specs.declared.Located.{Located}
 use Rattle.fields.specs.Kinds.{unit, dateOrBlank, position}
-use Rattle.flaws.specs.Flaws.{unread, ranged}
-use Rattle.flaws.specs.Parts.{admitsWhole, admitsPosition, numberReads, dateReads, dayReads, numberWithin, dateWithin, dayWithin, positionReads, positionWithin, Parts, numbered, parts, flawIn, flawAt}
+use Rattle.flaws.specs.Flaws.{letterOf, unread, ranged}
+use Rattle.flaw_parts.specs.Parts.{numberReads, dayReads, numberWithin, dateWithin, dayWithin, positionWithin, Parts, numbered, parts, flawIn, flawAt}
 use Rattle.flaws.specs.declared.Flaw.{Flaw}
 use Rattle.flaws.specs.declared.Flaw.the-variants as flaw
-use Rattle.flaws.proofs.AdmittedLaws.{admitted}
-use Rattle.flaws.proofs.SplitLaws.{split, unread-flaw, none-means, range-means, byte-means, shape-means}
-use Rattle.number_flaws.specs.Answers.{numberFlaw, unreadDate, dayFlaw}
+use Rattle.flaws.proofs.SetsAlike.{unread-alike, among-letters}
+use Rattle.flaw_parts.proofs.AdmittedLaws.{admitted}
+use Rattle.flaw_parts.proofs.SplitLaws.{split, unread-flaw, none-means, range-means, byte-means, shape-means}
+use Rattle.number_flaws.specs.Answers.{numberFlaw, dayFlaw, placeFlaw}
 
 -- what is read has the flaw of its range
 in-range : (b : Bool) → ranged b ≡ cond (not b) flaw.Range flaw.None
 in-range true = refl
 in-range false = refl
 
--- A number.
-pub number-flaw : (admits : ℕ → Bool) (range : ℤ → Bool) (number : List ℕ → Signed) (p : List ℕ) → (numberReads (number p) ≡ true → every admits p ≡ true)
-    → (v : Signed) → number p ≡ v → numberFlaw admits range p v ≡ flawIn (numbered admits range number) [] p
-number-flaw admits range number p adm signed.Bad e = unread-flaw (numbered admits range number) [] p (ap numberReads e)
-number-flaw admits range number p adm signed.Blank e = rw (adm (ap numberReads e), e)
-number-flaw admits range number p adm (signed.Filled z) e = rw (adm (ap numberReads e), e) (in-range (range z))
+-- A number: what its reader carries is the flaw of its bytes.
+pub number-flaw : (admits : ℕ → Bool) (range : ℤ → Bool) (number : List ℕ → Signed) (p : List ℕ) → (numberReads (number p) ≡ true → every admits p ≡ true) → Carries (unread admits p) (number p)
+    → (v : Signed) → number p ≡ v → numberFlaw range v ≡ flawIn (numbered admits range number) [] p
+number-flaw admits range number p adm wrong (signed.Bad x) e = (rw e at wrong) ∙ unread-flaw (numbered admits range number) [] p (ap numberReads e)
+number-flaw admits range number p adm wrong signed.Blank e = rw (adm (ap numberReads e), e)
+number-flaw admits range number p adm wrong (signed.Filled z) e = rw (adm (ap numberReads e), e) (in-range (range z))
 
 -- A unit that is at odds with its amount.
 unit-one : (q : List ℕ) → length q ≡ 1 → every (among "kMG ") q ≡ byteGood (among "kMG ") q
@@ -82,29 +86,42 @@ module _ (p : List ℕ) where
   unfolding dayReads
   no-date b r = unread-flaw (parts dateOrBlank 8) [] p (rw (b, r))
 
-  day-answer : dayFlaw p (dateOf p) ≡ flawAt 8 [] p
-  unfolding dateOf unreadDate dateReads dateWithin
+  day-answer : dayFlaw (dateOf p) ≡ flawAt 8 [] p
+  unfolding dateOf unreadDate dateWithin
   day-answer =
-      cond-case (λ (d : Dated). dayFlaw p d ≡ flawAt 8 [] p) (blank p) blank-day
-      (λ b. cond-case (λ (d : Dated). dayFlaw p d ≡ flawAt 8 [] p) (dateReads p && dateWithin p)
+      cond-case (λ (d : Dated). dayFlaw d ≡ flawAt 8 [] p) (blank p) blank-day
+      (λ b. cond-case (λ (d : Dated). dayFlaw d ≡ flawAt 8 [] p) (dateReads p && dateWithin p)
       (λ e. let h = and-split (dateReads p) (dateWithin p) e in real-day (h .0) (h .1))
       (λ e. cond-case (λ (x : Flaw). x ≡ flawAt 8 [] p) (dateReads p)
       (λ r. no-day b r (sym (ap (λ (t : Bool). t && dateWithin p) r) ∙ e))
       (no-date b)))
 
-pub day-flaw : (p : List ℕ) (d : Dated) → dateOf p ≡ d → dayFlaw p d ≡ flawAt 8 [] p
-day-flaw p d e = ap (dayFlaw p) (sym e) ∙ day-answer p
+pub day-flaw : (p : List ℕ) (d : Dated) → dateOf p ≡ d → dayFlaw d ≡ flawAt 8 [] p
+day-flaw p d e = ap dayFlaw (sym e) ∙ day-answer p
 
 -- A place.
-pub place-kept : (p : List ℕ) → positionGood p ≡ true → flaw.None ≡ flawAt 11 [] p
+place-kept : (p : List ℕ) → positionGood p ≡ true → flaw.None ≡ flawAt 11 [] p
 place-kept p e =
     let h = and-split (positionReads p) (positionWithin p) (sym (split position 15 (p ∷ []) 1) ∙ e) in
     sym (none-means position 15 [] p (h .0) (h .1))
 
-pub place-outside : (p : List ℕ) → positionGood p ≡ false → positionReads p ≡ true → flaw.Range ≡ flawAt 11 [] p
+place-outside : (p : List ℕ) → positionGood p ≡ false → positionReads p ≡ true → flaw.Range ≡ flawAt 11 [] p
 place-outside p e r =
     let w : positionWithin p ≡ false = sym (ap (λ (b : Bool). b && positionWithin p) r) ∙ sym (split position 15 (p ∷ []) 1) ∙ e in
     sym (range-means position 15 [] p (rw (r, w)))
 
-pub place-unread : (p : List ℕ) → positionReads p ≡ false → unread admitsPosition p ≡ flawAt 11 [] p
+place-unread : (p : List ℕ) → positionReads p ≡ false → unread admitsPosition p ≡ flawAt 11 [] p
 place-unread p r = unread-flaw (parts position 15) [] p r
+
+place-answer : (p : List ℕ) → placeFlaw (locatedOf p) ≡ flawAt 11 [] p
+unfolding locatedOf unreadPosition
+place-answer p =
+    cond-case (λ (d : Located). placeFlaw d ≡ flawAt 11 [] p) (positionGood p) (place-kept p)
+    (λ e. cond-case (λ (x : Flaw). x ≡ flawAt 11 [] p) (positionReads p) (place-outside p e) (place-unread p))
+
+pub place-flaw : (p : List ℕ) (d : Located) → locatedOf p ≡ d → placeFlaw d ≡ flawAt 11 [] p
+place-flaw p d e = ap placeFlaw (sym e) ∙ place-answer p
+
+-- The letters of a unit.
+pub unit-letters : (p : List ℕ) → unread (letterOf (bytes "kMG ")) p ≡ unread (among "kMG ") p
+unit-letters p = sym (unread-alike (among "kMG ") (letterOf (bytes "kMG ")) (among-letters "kMG ") p)

@@ -1,7 +1,5 @@
-// What is wrong with a field of numbers: a frequency and its unit, tenths, a whole number, a height, a date, a place. Each flaw follows from what the field's reader answers.
-use columns::sets::Set;
-use columns::texts::all_in;
-use columns::texts::byte;
+// What is wrong with a field of numbers: a frequency and its unit, tenths, a whole number, a height, a date, a place. What cannot be read carries its flaw
+// in its reader's answer; what was read has that of its range.
 use days::dates::Dated;
 use days::dates::read_date;
 use distances::is_whole_filled;
@@ -15,19 +13,16 @@ use numerals::Signed;
 use numerals::fits_signed;
 use numerals::magnitude;
 use numerals::read_signed;
-use positions::is_position;
+use positions::Located;
+use positions::read_position;
 use tenths::in_range;
 ghost use mathlib.Core.Path.{_≡_};
-ghost use mathlib.Core.Bool.{false, _&&_, _||_};
 ghost use mathlib.Core.List.{[]};
-ghost use Prim.Native.Nat.{_+_, _≤_};
-ghost use lib.ListN.{length, getD, take, drop};
-ghost use lib.Dec.{eqb};
+ghost use Rattle.decimals.specs.Decimals.{admitsDecimal};
 ghost use Rattle.formats.specs.Formats.{formatOf, maySign};
 ghost use Rattle.fields.specs.Table.{rangeOf};
-ghost use Rattle.flaws.specs.Flaws.{unread, ranged};
-ghost use Rattle.flaws.specs.Parts.{admitsDecimal, wholeReads, positionReads, numbered, flawIn, flawAt};
-ghost use Rattle.number_flaws.specs.Answers.{unreadDate};
+ghost use Rattle.flaws.specs.Flaws.{ranged};
+ghost use Rattle.flaw_parts.specs.Parts.{numbered, flawIn, flawAt};
 
 // The flaw of a value that was read: none in its range, else range.
 pub fn range_flaw(within: bool) -> Flaw
@@ -36,25 +31,12 @@ pub fn range_flaw(within: bool) -> Flaw
     if within { Flaw::None } else { Flaw::Range }
 }
 
-// The flaw of a decimal that cannot be read.
-fn unread_decimal(format: Format, s: &[u8]) -> Flaw
-    ensures { λ r. ⌜ r ≡ unread (admitsDecimal (maySign format)) (now (s .entry)) ⌝ }
-{
-    match format {
-        Format::Frequency => unread_of(b"0123456789. ", s),
-        Format::Power => unread_of(b"0123456789.+- ", s),
-        Format::Azimuth => unread_of(b"0123456789. ", s),
-        Format::Elevation => unread_of(b"0123456789.+- ", s),
-        Format::Gain => unread_of(b"0123456789. ", s),
-    }
-}
-
 // 1A and 1Y, the amount of a frequency.
 pub fn amount_flaw(s: &[u8]) -> Flaw
     ensures { λ r. ⌜ r ≡ flawAt 1 [] (now (s .entry)) ⌝ }
 {
     match read_decimal(Format::Frequency, s) {
-        Signed::Bad => unread_decimal(Format::Frequency, s),
+        Signed::Bad(flaw) => flaw,
         Signed::Blank => Flaw::None,
         Signed::Filled(v) => range_flaw(0 < magnitude(v)),
     }
@@ -82,7 +64,7 @@ pub fn tenths_flaw(format: Format, s: &[u8]) -> Flaw
     ensures { λ r. ⌜ r ≡ flawIn (numbered (admitsDecimal (maySign format)) (rangeOf format) (formatOf format)) [] (now (s .entry)) ⌝ }
 {
     match read_decimal(format, s) {
-        Signed::Bad => unread_decimal(format, s),
+        Signed::Bad(flaw) => flaw,
         Signed::Blank => Flaw::None,
         Signed::Filled(v) => range_flaw(in_range(format, v)),
     }
@@ -103,23 +85,10 @@ pub fn height_flaw(s: &[u8]) -> Flaw
     ensures { λ r. ⌜ r ≡ flawAt 13 [] (now (s .entry)) ⌝ }
 {
     match read_signed(s) {
-        Signed::Bad => unread_of(b"0123456789+- ", s),
+        Signed::Bad(flaw) => flaw,
         Signed::Blank => Flaw::None,
         Signed::Filled(z) => range_flaw(fits_signed(4, z)),
     }
-}
-
-// The flaw of a date that is not blank and no day: eight digits are outside the calendar.
-fn unread_date(s: &[u8]) -> Flaw
-    ensures { λ r. ⌜ r ≡ unreadDate (now (s .entry)) ⌝ }
-{
-    if s.len() != 8 {
-        return unread_of(b"0123456789 ", s);
-    }
-    if all_in(Set::Digit, s) {
-        return Flaw::Range;
-    }
-    unread_of(b"0123456789 ", s)
 }
 
 // 2C, 2W and 2Z, a date or blank.
@@ -127,61 +96,18 @@ pub fn day_flaw(s: &[u8]) -> Flaw
     ensures { λ r. ⌜ r ≡ flawAt 8 [] (now (s .entry)) ⌝ }
 {
     match read_date(s) {
-        Dated::Bad => unread_date(s),
+        Dated::Bad(flaw) => flaw,
         Dated::Blank => Flaw::None,
         Dated::Filled(_) => Flaw::None,
     }
-}
-
-// Whether a byte is one of two letters.
-fn is_hemisphere(plus: u8, minus: u8, c: u8) -> bool
-    ensures { λ r. ⌜ r ≡ eqb c plus || (eqb c minus || false) ⌝ }
-{
-    if c == plus { true } else { c == minus }
-}
-
-// Whether one half of 4C, with d columns of degrees, has three whole numbers and one of its two letters.
-fn reads_arc(p: &[u8], d: usize, plus: u8, minus: u8) -> bool
-    requires { ⌜ d + 5 ≤ length (now p) ⌝ }
-    ensures { λ r. ⌜ r ≡ wholeReads 0 d (now (p .entry))
-        && (eqb (getD (now (p .entry)) d 0) plus || (eqb (getD (now (p .entry)) d 0) minus || false))
-        && wholeReads (d + 1) 2 (now (p .entry))
-        && wholeReads (d + 3) 2 (now (p .entry)) ⌝ }
-{
-    if !is_whole_filled(&p[0..d]) {
-        return false;
-    }
-    if !is_hemisphere(plus, minus, byte(p, d)) {
-        return false;
-    }
-    if !is_whole_filled(&p[d + 1..d + 3]) {
-        return false;
-    }
-    is_whole_filled(&p[d + 3..d + 5])
-}
-
-// Whether 4C has its six numbers and two letters, on the ground or not.
-fn reads_position(s: &[u8]) -> bool
-    ensures { λ r. ⌜ r ≡ positionReads (now (s .entry)) ⌝ }
-{
-    if s.len() != 15 {
-        return false;
-    }
-    if !reads_arc(&s[0..8], 3, b'E', b'W') {
-        return false;
-    }
-    reads_arc(&s[8..15], 2, b'N', b'S')
 }
 
 // 4C, the position.
 pub fn position_flaw(s: &[u8]) -> Flaw
     ensures { λ r. ⌜ r ≡ flawAt 11 [] (now (s .entry)) ⌝ }
 {
-    if is_position(s) {
-        return Flaw::None;
+    match read_position(s) {
+        Located::Bad(flaw) => flaw,
+        Located::Filled(_) => Flaw::None,
     }
-    if reads_position(s) {
-        return Flaw::Range;
-    }
-    unread_of(b"0123456789EWNS ", s)
 }

@@ -3,3 +3,4 @@ pub mod Signs
 pub mod Spelling
 pub mod RoundTrip
 pub mod WholeColumn
+pub mod Letters

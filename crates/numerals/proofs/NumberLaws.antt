@@ -12,8 +12,11 @@ use lib.ListN.{length, getD, take, drop, length-take, List·getD-eq-default}
 use borrow.Author.Tests.{leb-true, lt-ltb, le-ltb, ne-eqb}
 use Rattle.columns.specs.Sets.{isDigit}
 use Rattle.columns.specs.Texts.{head, tail, ended, skip, every, blank}
+use Rattle.flaws.specs.Flaws.{unread}
+use Rattle.flaws.specs.declared.Flaw.{Flaw}
 use Rattle.numerals.specs.Numbers.{leading, numberFrom, wholeDigits, amount, inSign, hasMinus, unsigned, numberOf, wholeOf}
 use Rattle.numerals.specs.declared.Whole.{Whole}
+use Rattle.numerals.specs.declared.Whole.the-variants as whole
 use Rattle.numerals.specs.declared.Signed.{Signed}
 use Rattle.numerals.specs.declared.Signed.the-variants as signed
 use Rattle.columns.proofs.TextLaws.{and-split, cond-case, head-at, tail-at, at-end, not-at-end, every-take, every-drop}
@@ -121,14 +124,28 @@ whole-small t =
     (λ e. front-below 18 t) (λ e. omega arith)
 
 -- a number with a sign, over what its digits say: blank where nothing follows the spaces,
-pub number-blank : (sign : Bool) (d : List ℕ → Whole) (s : List ℕ) (i : ℕ) → skip s ≡ drop i s → i ≡ length s → signed.Blank ≡ numberOf sign d s
-number-blank sign d s i e h = rw (e, at-end s i h)
+pub number-blank : (sign : Bool) (S : ℕ → Bool) (d : List ℕ → Whole) (s : List ℕ) (i : ℕ) → skip s ≡ drop i s → i ≡ length s → signed.Blank ≡ numberOf sign S d s
+number-blank sign S d s i e h = rw (e, at-end s i h)
 
 -- and else what the digits after the sign say
-pub number-read : (sign : Bool) (d : List ℕ → Whole) (s : List ℕ) (i : ℕ) {t u : List ℕ} {minus : Bool} {w : Whole} {r : Signed}
-    → skip s ≡ drop i s → i ≤ length s → (i ≡ length s → ⊥) → t ≡ drop i s → minus ≡ hasMinus sign t → u ≡ unsigned sign t → w ≡ d u → r ≡ inSign minus w
-    → r ≡ numberOf sign d s
-number-read sign d s i e l n at m f g h = rw (e, not-at-end s i l n, ← at, ← m, ← f, ← g) h
+pub number-read : (sign : Bool) (S : ℕ → Bool) (d : List ℕ → Whole) (s : List ℕ) (i : ℕ) {t u : List ℕ} {minus : Bool} {w : Whole} {r : Signed}
+    → skip s ≡ drop i s → i ≤ length s → (i ≡ length s → ⊥) → t ≡ drop i s → minus ≡ hasMinus sign t → u ≡ unsigned sign t → w ≡ d u → r ≡ inSign (unread S s) minus w
+    → r ≡ numberOf sign S d s
+number-read sign S d s i e l n at m f g h = rw (e, not-at-end s i l n, ← at, ← m, ← f, ← g) h
+
+-- what is bad carries the flaw of its field
+abbrev pub Carries : Flaw → Signed → Type 0
+Carries wrong (signed.Bad x) = x ≡ wrong
+Carries wrong signed.Blank = Unit {0}
+Carries wrong (signed.Filled z) = Unit {0}
+
+pub number-carries : (sign : Bool) (S : ℕ → Bool) (d : List ℕ → Whole) (p : List ℕ) → Carries (unread S p) (numberOf sign S d p)
+number-carries sign S d p =
+    cond-case (Carries (unread S p)) (ended (skip p)) (λ e. tt) (λ e. by (unread S p) (hasMinus sign (skip p)) (d (unsigned sign (skip p)))) where
+      by : (wrong : Flaw) (minus : Bool) (w : Whole) → Carries wrong (inSign wrong minus w)
+      by wrong minus whole.Bad = refl
+      by wrong minus whole.Blank = refl
+      by wrong minus (whole.Filled v) = tt
 
 -- a number with one more zero behind it has room, while there are places left
 pub scale-turn : (r k : ℕ) → 0 < k → k ≤ 18 → r < 10 ^ (18 - k) → (r * 10 < 10 ^ (18 - (k - 1))) × (r * 10 ^ k ≡ r * 10 * 10 ^ (k - 1)) × (10 ^ (18 - (k - 1)) ≤ 10 ^ 18)

@@ -12,7 +12,7 @@ use lib.IntN.{ℤ, pos, negsuc}
 use borrow.Author.Tests.{ne-eqb, le-leb, ltb-true}
 use Rattle.columns.specs.Sets.{among, isDigit}
 use Rattle.columns.specs.Texts.{head, ended, skip, every}
-use Rattle.numerals.specs.Numbers.{leading, numberFrom, wholeDigits, wholeOf, withSign, unsigned, numberOf, signedOf, spellDigits, spellWhole, spellSigned, signedFits}
+use Rattle.numerals.specs.Numbers.{leading, numberFrom, wholeDigits, wholeOf, withSign, unsigned, admitsWhole, numberOf, signedOf, spellDigits, spellWhole, spellSigned, signedFits}
 use Rattle.numerals.specs.declared.Whole.{Whole}
 use Rattle.numerals.specs.declared.Whole.the-variants as whole
 use Rattle.numerals.specs.declared.Signed.the-variants as signed
@@ -103,16 +103,16 @@ whole-trip k v one few h =
     let s : skip (spellWhole k v) ≡ spellWhole k v = skip-none (spellWhole k v) (omega (arith, begins-high k v [] one)) in
     rw (s, not-ended k v [] one) (whole-digits-trip k v one few h)
 
--- a number whose text begins with no sign, over what its digits say
-pub plain-trip : (sign : Bool) (d : List ℕ → Whole) (t : List ℕ) (v : ℕ) → ended t ≡ false → 46 ≤ head t → d t ≡ whole.Filled v → numberOf sign d t ≡ signed.Filled (pos v)
+-- a number whose text t begins with no sign, behind its spaces, over what its digits say
+pub plain-trip : (sign : Bool) (S : ℕ → Bool) (d : List ℕ → Whole) (p t : List ℕ) (v : ℕ) → skip p ≡ skip t → ended t ≡ false → 46 ≤ head t → d t ≡ whole.Filled v → numberOf sign S d p ≡ signed.Filled (pos v)
 unfolding unsigned among
-plain-trip sign d t v e h f =
-    rw (skip-none t (omega arith), e, ne-eqb (head t) 45 (λ q. omega arith), ne-eqb (head t) 43 (λ q. omega arith), and-false sign, f)
+plain-trip sign S d p t v k e h f =
+    rw (k, skip-none t (omega arith), e, ne-eqb (head t) 45 (λ q. omega arith), ne-eqb (head t) 43 (λ q. omega arith), and-false sign, f)
 
 -- and one that begins with minus
-pub minus-trip : (d : List ℕ → Whole) (t : List ℕ) (v : ℕ) → d t ≡ whole.Filled v → numberOf true d (45 ∷ t) ≡ signed.Filled (withSign true v)
+pub minus-trip : (S : ℕ → Bool) (d : List ℕ → Whole) (t : List ℕ) (v : ℕ) → d t ≡ whole.Filled v → numberOf true S d (45 ∷ t) ≡ signed.Filled (withSign true v)
 unfolding unsigned among skip
-minus-trip d t v f = rw f
+minus-trip S d t v f = rw f
 
 -- whole numbers with a sign
 pub signed-trip : (w : ℕ) (z : ℤ) → w ≤ 18 → signedFits w z ≡ true → signedOf (spellSigned w z) ≡ signed.Filled z
@@ -120,11 +120,11 @@ unfolding signedOf spellSigned signedFits
 signed-trip w (pos n) few e =
     let f = and-split (ltb 0 w) (ltb n (10 ^ w)) e in
     let one : 1 ≤ w = ltb-true 0 w (f .0) in
-    plain-trip true wholeDigits (spellWhole w n) n (not-ended w n [] one) (omega (arith, begins-high w n [] one)) (whole-digits-trip w n one few (ltb-true n (10 ^ w) (f .1)))
+    plain-trip true (admitsWhole true) wholeDigits (spellWhole w n) (spellWhole w n) n refl (not-ended w n [] one) (omega (arith, begins-high w n [] one)) (whole-digits-trip w n one few (ltb-true n (10 ^ w) (f .1)))
 signed-trip w (negsuc n) few e =
     let f = and-split (ltb 0 w) (ltb (suc n) (10 ^ (w - 1))) e in
     let h : suc n < 10 ^ (w - 1) = ltb-true (suc n) (10 ^ (w - 1)) (f .1) in
-    minus-trip wholeDigits (spellWhole (w - 1) (suc n)) (suc n) (whole-digits-trip (w - 1) (suc n) (two (w - 1) n h) (omega arith) h) where
+    minus-trip (admitsWhole true) wholeDigits (spellWhole (w - 1) (suc n)) (suc n) (whole-digits-trip (w - 1) (suc n) (two (w - 1) n h) (omega arith) h) where
       two : (k n : ℕ) → suc n < 10 ^ k → 1 ≤ k
       two zero n h = absurd (omega arith)
       two (suc k) n h = omega arith

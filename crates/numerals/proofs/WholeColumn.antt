@@ -48,5 +48,5 @@ module _ (k : ℕ) (one : 1 ≤ k) (few : k ≤ 18) where
   }
 
 -- spaces are no number
-pub number-of-spaces : (sign : Bool) (d : List ℕ → Whole) (n : ℕ) → numberOf sign d (replicate n 32) ≡ signed.Blank
-number-of-spaces sign d n = rw (skip-spaces n)
+pub number-of-spaces : (sign : Bool) (S : ℕ → Bool) (d : List ℕ → Whole) (n : ℕ) → numberOf sign S d (replicate n 32) ≡ signed.Blank
+number-of-spaces sign S d n = rw (skip-spaces n)

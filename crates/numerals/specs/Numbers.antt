@@ -1,12 +1,14 @@
 -- Document 01, "How columns are read" and "Values and the one spelling": numbers.
 use Prim.Native.Nat.{ℕ, zero, suc, _+_, _-_, _*_, _/_, _%_, _^_}
-use mathlib.Core.Bool.{Bool, true, false, cond, not, _&&_}
+use mathlib.Core.Bool.{Bool, true, false, cond, not, _&&_, _||_}
 use mathlib.Core.List.{List, [], _∷_}
 use lib.ListN.{length, drop}
 use lib.Dec.{ltb}
 use lib.IntN.{ℤ, pos, negsuc, negℤ, natAbs}
 use Rattle.columns.specs.Sets.{is, among, isDigit}
 use Rattle.columns.specs.Texts.{head, tail, ended, skip}
+use Rattle.flaws.specs.Flaws.{unread}
+use Rattle.flaws.specs.declared.Flaw.{Flaw}
 use Rattle.numerals.specs.declared.Whole.{Whole}
 use Rattle.numerals.specs.declared.Whole.the-variants as whole
 use Rattle.numerals.specs.declared.Signed.{Signed}
@@ -59,11 +61,15 @@ amount (whole.Filled v) = v
 abbrev pub withSign : Bool → ℕ → ℤ
 withSign minus v = cond minus (negℤ (pos v)) (pos v)
 
--- A number whose sign is known.
-abbrev pub inSign : Bool → Whole → Signed
-inSign minus whole.Bad = signed.Bad
-inSign minus whole.Blank = signed.Bad
-inSign minus (whole.Filled v) = signed.Filled (withSign minus v)
+-- A number whose sign is known, or what is wrong with its field where its digits say none.
+abbrev pub inSign : Flaw → Bool → Whole → Signed
+inSign wrong minus whole.Bad = signed.Bad wrong
+inSign wrong minus whole.Blank = signed.Bad wrong
+inSign wrong minus (whole.Filled v) = signed.Filled (withSign minus v)
+
+-- The bytes that a whole number admits, with a sign or without.
+unfoldable pub admitsWhole : Bool → ℕ → Bool
+admitsWhole sign c = isDigit c || is " " c || (sign && among "+-" c)
 
 -- Signed: one + or - may stand directly before the first digit or point, nowhere else. Unsigned fields take no sign.
 abbrev pub hasMinus : Bool → List ℕ → Bool
@@ -72,17 +78,19 @@ hasMinus sign t = sign && is "-" (head t)
 unfoldable pub unsigned : Bool → List ℕ → List ℕ
 unsigned sign t = cond (sign && among "+-" (head t)) (tail t) t
 
--- Spaces, a sign where the field may have one, and what its digits say.
-abbrev pub numberOf : Bool → (List ℕ → Whole) → List ℕ → Signed
-numberOf sign digits p = let t = skip p in cond (ended t) signed.Blank (inSign (hasMinus sign t) (digits (unsigned sign t)))
+-- Spaces, a sign where the field may have one, and what its digits say. What is no number has the flaw of its bytes, by those that the field admits.
+abbrev pub numberOf : Bool → (ℕ → Bool) → (List ℕ → Whole) → List ℕ → Signed
+numberOf sign admits digits p =
+    let t = skip p in
+    cond (ended t) signed.Blank (inSign (unread admits p) (hasMinus sign t) (digits (unsigned sign t)))
 
 -- Whole number with a sign.
 unfoldable pub signedOf : List ℕ → Signed
-signedOf p = numberOf true wholeDigits p
+signedOf p = numberOf true (admitsWhole true) wholeDigits p
 
 -- Blank, or a number that passes.
 abbrev pub passes : (ℤ → Bool) → Signed → Bool
-passes test signed.Bad = false
+passes test (signed.Bad wrong) = false
 passes test signed.Blank = true
 passes test (signed.Filled z) = test z
 

@@ -2,11 +2,14 @@
 use columns::sets::is_digit;
 use columns::texts::byte;
 use columns::texts::spaces;
+use flaws::Flaw;
+use flaws::unread_of;
 ghost use mathlib.Core.Path.{_≡_};
 ghost use mathlib.Core.List.{_++_};
 ghost use Prim.Native.Nat.{_+_, _-_, _/_, _^_, _≤_, _<_};
 ghost use lib.ListN.{length, take, drop};
 ghost use lib.IntN.{natAbs};
+ghost use Rattle.flaws.specs.Flaws.{letterOf, unread};
 ghost use Rattle.numerals.specs.Numbers.{leading, numberFrom, wholeDigits, wholeOf, amount, withSign, inSign, hasMinus, unsigned, signedOf, spellDigits, spellWhole, wholeFits, spellSigned, signedFits, isNegative, wholeFilled};
 
 // A whole number, read from its columns.
@@ -16,9 +19,9 @@ pub enum Whole {
     Filled(u64),
 }
 
-// A number with a sign, read from its columns: metres, or units of the last decimal place.
+// A number with a sign, read from its columns: metres, or units of the last decimal place; or what is wrong with them.
 pub enum Signed {
-    Bad,
+    Bad(Flaw),
     Blank,
     Filled(i64),
 }
@@ -113,14 +116,14 @@ fn with_sign(minus: bool, v: u64) -> i64
     if minus { 0 - n } else { n }
 }
 
-// A number whose sign is known.
-pub fn in_sign(minus: bool, w: Whole) -> Signed
+// A number whose sign is known; where the digits of a field say none, what is wrong with the field, by the letters that it admits.
+pub fn in_sign(minus: bool, w: Whole, letters: &[u8], s: &[u8]) -> Signed
     requires { ⌜ amount w < 10 ^ 18 ⌝ }
-    ensures { λ r. ⌜ r ≡ inSign minus w ⌝ }
+    ensures { λ r. ⌜ r ≡ inSign (unread (letterOf (now (letters .entry))) (now (s .entry))) minus w ⌝ }
 {
     match w {
-        Whole::Bad => Signed::Bad,
-        Whole::Blank => Signed::Bad,
+        Whole::Bad => Signed::Bad(unread_of(letters, s)),
+        Whole::Blank => Signed::Bad(unread_of(letters, s)),
         Whole::Filled(v) => Signed::Filled(with_sign(minus, v)),
     }
 }
@@ -156,7 +159,7 @@ pub fn read_signed(s: &[u8]) -> Signed
     }
     let t = &s[i..];
     let minus = has_minus(true, t);
-    in_sign(minus, only_digits(after_sign(true, t)))
+    in_sign(minus, only_digits(after_sign(true, t)), b"0123456789+- ", s)
 }
 
 // Writes the last count decimal digits of v from at on, and answers what is left of v.

@@ -17,7 +17,7 @@ use Rattle.numerals.specs.Numbers.{wholeOf, wholeFilled, amount, withSign, spel
 use Rattle.numerals.specs.declared.Whole.{Whole}
 use Rattle.columns.proofs.TextLaws.{and-split}
 use Rattle.numerals.proofs.Spelling.{set-before}
-use Rattle.positions.specs.Positions.{wholeThere, arcSeconds, arcGood, arcOf}
+use Rattle.positions.specs.Positions.{wholeThere, arcSeconds, arcGood, arcOf, arcReads}
 use Rattle.numerals.proofs.RoundTrip.{spelled-front}
 
 -- a number that was read and passed is at most the given one
@@ -32,6 +32,11 @@ module _ (d : ℕ) (p : List ℕ) {g m s : Whole} {c : ℕ} (h : (g ≡ wholeOf 
       ≡ arcGood d (text._∷_ plus (text._∷_ minus text.[])) degrees p
   unfolding arcGood arcSeconds among
   arc-good plus minus degrees = rw (h .0, h .1, h .2, h .3)
+
+  -- can be read where they can,
+  pub arc-reads : (plus minus : Char) → (wholeFilled g && (eqb c (code plus) || (eqb c (code minus) || false)) && wholeFilled m && wholeFilled s) ≡ arcReads d (text._∷_ plus (text._∷_ minus text.[])) p
+  unfolding arcReads among
+  arc-reads plus minus = rw (h .0, h .1, h .2, h .3)
 
   -- say its value,
   pub arc-value : (minus : Char) → withSign (eqb c (code minus)) (3600 * amount g + 60 * amount m + amount s) ≡ arcOf d minus p

@@ -1,2 +1,3 @@
 pub mod ArcLaws
 pub mod PositionColumn
+pub mod Letters

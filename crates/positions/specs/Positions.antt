@@ -2,14 +2,17 @@
 use Prim.Native.Nat.{ℕ, _+_, _*_, _/_, _%_}
 use Prim.Native.Char.{Char, code}
 use Prim.Native.String.{String}
-use mathlib.Core.Bool.{Bool, cond, _&&_}
+use mathlib.Core.Bool.{Bool, false, cond, _&&_, _||_}
 use mathlib.Core.List.{List, [], _∷_, _++_}
 use lib.ListN.{getD, take, drop}
 use lib.Dec.{leb}
 use lib.IntN.{ℤ, natAbs}
 use Rattle.columns.specs.Sets.{is, among}
 use Rattle.columns.specs.Texts.{sized}
-use Rattle.numerals.specs.Numbers.{wholeOf, wholeFilled, amount, withSign, isNegative, spellDigits}
+use Rattle.flaws.specs.Flaws.{unread}
+use Rattle.flaws.specs.declared.Flaw.{Flaw}
+use Rattle.flaws.specs.declared.Flaw.the-variants as flaw
+use Rattle.numerals.specs.Numbers.{wholeOf, wholeFilled, admitsWhole, amount, withSign, isNegative, spellDigits}
 use Rattle.positions.specs.declared.Position.{Position}
 use Rattle.positions.specs.declared.Located.{Located}
 use Rattle.positions.specs.declared.Located.the-variants as located
@@ -47,9 +50,27 @@ positionGood p = sized 15 p && arcGood 3 "EW" 180 (take 8 p) && arcGood 2 "NS" 9
 unfoldable pub positionOf : List ℕ → Position
 positionOf p = record { east = arcOf 3 "W" (take 8 p); north = arcOf 2 "S" (drop 8 p) }
 
--- Both in one answer.
+-- The bytes that 4C admits.
+unfoldable pub admitsPosition : ℕ → Bool
+admitsPosition c = admitsWhole false c || among "EW" c || among "NS" c
+
+-- It can be read, in its range or not: six whole numbers and two letters stand in their columns.
+abbrev pub wholeReads : ℕ → ℕ → List ℕ → Bool
+wholeReads i w p = wholeFilled (wholeOf (take w (drop i p)))
+
+unfoldable pub arcReads : ℕ → String → List ℕ → Bool
+arcReads d letters p = wholeReads 0 d p && among letters (getD p d 0) && wholeReads (d + 1) 2 p && wholeReads (d + 3) 2 p
+
+unfoldable pub positionReads : List ℕ → Bool
+positionReads p = sized 15 p && arcReads 3 "EW" (take 8 p) && arcReads 2 "NS" (drop 8 p)
+
+-- What is wrong with what is no place: what can be read is not on the ground, anything else has the flaw of its bytes.
+unfoldable pub unreadPosition : List ℕ → Flaw
+unreadPosition p = cond (positionReads p) flaw.Range (unread admitsPosition p)
+
+-- All in one answer.
 unfoldable pub locatedOf : List ℕ → Located
-locatedOf p = cond (positionGood p) (located.Filled (positionOf p)) located.Bad
+locatedOf p = cond (positionGood p) (located.Filled (positionOf p)) (located.Bad (unreadPosition p))
 
 -- The rule on a typed value.
 unfoldable pub positionFits : Position → Bool

@@ -1,5 +1,7 @@
 // Positions: the coordinates 4C, read and written. Each half has degrees, a letter, minutes and seconds.
 use columns::texts::byte;
+use flaws::Flaw;
+use flaws::unread_of;
 use numerals::Whole;
 use numerals::amount_of;
 use numerals::is_negative;
@@ -14,8 +16,10 @@ ghost use Prim.Native.Nat.{_+_, _*_, _/_, _%_, _^_, _≤_, _<_};
 ghost use lib.ListN.{length, getD, take, drop};
 ghost use lib.IntN.{natAbs};
 ghost use lib.Dec.{leb, eqb};
+ghost use Rattle.flaws.specs.Flaws.{unread};
+ghost use Rattle.flaws.specs.declared.Flaw.the-variants as flaw;
 ghost use Rattle.numerals.specs.Numbers.{wholeOf, wholeFilled, amount, withSign, isNegative, spellDigits};
-ghost use Rattle.positions.specs.Positions.{positionGood, positionOf, locatedOf, positionFits, spellPosition};
+ghost use Rattle.positions.specs.Positions.{positionGood, positionOf, admitsPosition, locatedOf, positionFits, spellPosition};
 
 // A place on the ground in seconds of arc, east and north positive.
 pub struct Position {
@@ -23,9 +27,9 @@ pub struct Position {
     pub north: i64,
 }
 
-// A position, read from its columns.
+// A position, read from its columns, or what is wrong with them.
 pub enum Located {
-    Bad,
+    Bad(Flaw),
     Filled(Position),
 }
 
@@ -113,6 +117,43 @@ fn is_arc(a: Arc, plus: u8, minus: u8, degrees: u64) -> bool
     seconds_in(a) <= 3600 * degrees
 }
 
+// Whether one half has three whole numbers and one of its two letters, in its range or not.
+fn reads_arc(a: Arc, plus: u8, minus: u8) -> bool
+    ensures { λ r. ⌜ r ≡ wholeFilled (a .degrees)
+        && (eqb (a .letter) plus || (eqb (a .letter) minus || false))
+        && wholeFilled (a .minutes)
+        && wholeFilled (a .seconds) ⌝ }
+{
+    let degrees = a.degrees;
+    if !says_number(degrees) {
+        return false;
+    }
+    if !is_hemisphere(plus, minus, a.letter) {
+        return false;
+    }
+    let minutes = a.minutes;
+    if !says_number(minutes) {
+        return false;
+    }
+    let seconds = a.seconds;
+    says_number(seconds)
+}
+
+// What is wrong with two halves that are no place, and with the columns that they stand in.
+fn unread_position(east: Arc, north: Arc, s: &[u8]) -> Flaw
+    ensures { λ r. ⌜ r ≡ cond ((wholeFilled (east .degrees) && (eqb (east .letter) 69 || (eqb (east .letter) 87 || false)) && wholeFilled (east .minutes) && wholeFilled (east .seconds))
+        && (wholeFilled (north .degrees) && (eqb (north .letter) 78 || (eqb (north .letter) 83 || false)) && wholeFilled (north .minutes) && wholeFilled (north .seconds)))
+        flaw.Range (unread admitsPosition (now (s .entry))) ⌝ }
+{
+    if !reads_arc(east, b'E', b'W') {
+        return unread_of(b"0123456789EWNS ", s);
+    }
+    if !reads_arc(north, b'N', b'S') {
+        return unread_of(b"0123456789EWNS ", s);
+    }
+    Flaw::Range
+}
+
 // v, or -v.
 fn signed_seconds(minus: bool, v: u64) -> i64
     requires { ⌜ v < 10 ^ 6 ⌝ }
@@ -135,15 +176,15 @@ pub fn read_position(s: &[u8]) -> Located
     ensures { λ r. ⌜ r ≡ locatedOf (now (s .entry)) ⌝ }
 {
     if s.len() != 15 {
-        return Located::Bad;
+        return Located::Bad(unread_of(b"0123456789EWNS ", s));
     }
     let east = arc_in(&s[0..8], 3);
     let north = arc_in(&s[8..15], 2);
     if !is_arc(east, b'E', b'W', 180) {
-        return Located::Bad;
+        return Located::Bad(unread_position(east, north, s));
     }
     if !is_arc(north, b'N', b'S', 90) {
-        return Located::Bad;
+        return Located::Bad(unread_position(east, north, s));
     }
     Located::Filled(Position {
         east: arc_seconds(east, b'W'),
@@ -156,7 +197,7 @@ pub fn is_position(s: &[u8]) -> bool
     ensures { λ r. ⌜ r ≡ positionGood (now (s .entry)) ⌝ }
 {
     match read_position(s) {
-        Located::Bad => false,
+        Located::Bad(_) => false,
         Located::Filled(_) => true,
     }
 }
@@ -167,7 +208,7 @@ pub fn position_in(s: &[u8]) -> Position
     ensures { λ r. ⌜ r ≡ positionOf (now (s .entry)) ⌝ }
 {
     match read_position(s) {
-        Located::Bad => Position { east: 0, north: 0 },
+        Located::Bad(_) => Position { east: 0, north: 0 },
         Located::Filled(p) => p,
     }
 }

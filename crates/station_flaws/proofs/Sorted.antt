@@ -5,9 +5,9 @@ use mathlib.Core.List.{List, _++_}
 use Prim.Native.Nat.{ℕ}
 use Rattle.basics.specs.Rules.{firstBroken}
 use Rattle.fields.specs.Table.{stationTable}
-use Rattle.flaws.specs.Parts.{flawsFrom, flawWith}
-use Rattle.flaws.proofs.SplitLaws.{flawlessAll, table-split}
-use Rattle.flaws.proofs.SortedLaws.{Sorted, all-own, sorted}
+use Rattle.flaw_parts.specs.Parts.{flawsFrom, flawWith}
+use Rattle.flaw_parts.proofs.SplitLaws.{flawlessAll, table-split}
+use Rattle.flaw_parts.proofs.SortedLaws.{Sorted, all-own, sorted}
 use Rattle.station.specs.Places.{fieldsOf}
 use Rattle.station.specs.Rules.{fieldRules}
 use Rattle.station.specs.Between.{betweenRules}

@@ -3,7 +3,7 @@ use Prim.Native.Nat.{ℕ}
 use mathlib.Core.List.{List}
 use Rattle.basics.specs.Outcomes.{codeWith}
 use Rattle.fields.specs.Table.{stationTable}
-use Rattle.flaws.specs.Parts.{flawsFrom, flawWith}
+use Rattle.flaw_parts.specs.Parts.{flawsFrom, flawWith}
 use Rattle.flaws.specs.declared.Flaw.{Flaw}
 use Rattle.station.specs.Places.{fieldsOf}
 use Rattle.station.specs.Codes.{stationCode}

@@ -5,13 +5,32 @@ use mathlib.Core.List.{List, [], _∷_, _++_}
 use Prim.Native.Nat.{ℕ, zero, suc, _≤_}
 use Prim.Native.String.{String}
 use lib.ListN.{replicate}
+use lib.Dec.{eqb}
 use Rattle.columns.specs.Sets.{is, among, isDigit, isUpper, isLower, isNarrow, isText, isName}
 use Rattle.columns.specs.Texts.{bytes, exactly}
 use Rattle.emissions.specs.Emission.{isModulation, isSignal, isInformation, isDetail, isMultiplex}
 use Rattle.fields.specs.Table.{isUser}
 use Rattle.flaws.specs.Flaws.{letterOf, unread}
-use Rattle.flaws.specs.Parts.{inSome, atSome, emissionSets}
-use Rattle.flaws.proofs.SetsAlike.{Bytes, far-or, far-is, far-between, far-among, allBytes, alike, unread-alike, some-letters, by-letters}
+use Rattle.flaw_parts.specs.Parts.{inSome, atSome, emissionSets}
+use Rattle.flaws.proofs.SetsAlike.{Bytes, far-or, far-is, far-between, far-among, among-letters, alike, unread-alike, by-letters}
+
+-- The bytes of some literals are the letters of all.
+abbrev pub allBytes : List String → List ℕ
+allBytes [] = []
+allBytes (x ∷ xs) = bytes x ++ allBytes xs
+
+letters-joined : (a b : List ℕ) (c : ℕ) → (letterOf a c || letterOf b c) ≡ letterOf (a ++ b) c
+unfolding letterOf
+letters-joined [] b c = refl
+letters-joined (x ∷ a) b c = by (eqb c x) (letterOf a c) (letterOf b c) (letterOf (a ++ b) c) (letters-joined a b c) where
+  by : (x y z w : Bool) → (y || z) ≡ w → ((x || y) || z) ≡ (x || w)
+  by true y z w e = refl
+  by false y z w e = e
+
+some-letters : (xs : List String) (c : ℕ) → inSome xs c ≡ letterOf (allBytes xs) c
+unfolding inSome letterOf
+some-letters [] c = refl
+some-letters (x ∷ xs) c = rw (among-letters x c, some-letters xs c) (letters-joined (bytes x) (allBytes xs) c)
 
 module _ (c : ℕ) (h : 256 ≤ c) where
   digit-far : isDigit c ≡ false

@@ -16,7 +16,7 @@ use symbols::is_users;
 ghost use mathlib.Core.Path.{_≡_};
 ghost use mathlib.Core.Bool.{cond};
 ghost use mathlib.Core.List.{[]};
-ghost use Rattle.flaws.specs.Parts.{flawAt};
+ghost use Rattle.flaw_parts.specs.Parts.{flawAt};
 ghost use Rattle.flaws.specs.declared.Flaw.the-variants as flaw;
 
 // 1Z, 10Z, 8B2 and 13Y, fields of one byte: it is admitted, or it is not.

@@ -31,7 +31,7 @@ pub fn is_tenths(format: Format, s: &[u8]) -> bool
     ensures { λ r. ⌜ r ≡ tenthsGood (digitsBefore format) (digitsAfter format) (maySign format) (rangeOf format) (now (s .entry)) ⌝ }
 {
     match read_decimal(format, s) {
-        Signed::Bad => false,
+        Signed::Bad(_) => false,
         Signed::Blank => true,
         Signed::Filled(v) => in_range(format, v),
     }
@@ -42,7 +42,7 @@ pub fn read_tenths(format: Format, s: &[u8]) -> Tenths
     ensures { λ r. ⌜ r ≡ tenthsOf (digitsBefore format) (digitsAfter format) (maySign format) (now (s .entry)) ⌝ }
 {
     match read_decimal(format, s) {
-        Signed::Bad => Tenths::Blank,
+        Signed::Bad(_) => Tenths::Blank,
         Signed::Blank => Tenths::Blank,
         Signed::Filled(v) => Tenths::Filled(v),
     }

@@ -5,9 +5,9 @@ use mathlib.Core.List.{List, _++_}
 use Prim.Native.Nat.{ℕ}
 use Rattle.basics.specs.Rules.{firstBroken}
 use Rattle.fields.specs.Table.{stationTable}
-use Rattle.flaws.specs.Parts.{typedFlaws, flawWith}
-use Rattle.flaws.proofs.SplitLaws.{flawlessAll, typed-table-split}
-use Rattle.flaws.proofs.SortedLaws.{Sorted, all-typed, sorted}
+use Rattle.flaw_parts.specs.Parts.{typedFlaws, flawWith}
+use Rattle.flaw_parts.proofs.SplitLaws.{flawlessAll, typed-table-split}
+use Rattle.flaw_parts.proofs.SortedLaws.{Sorted, all-typed, sorted}
 use Rattle.station.specs.Members.{valuesOf}
 use Rattle.station.specs.Rules.{typedRules}
 use Rattle.station.specs.Between.{betweenRules}

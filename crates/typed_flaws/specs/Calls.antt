@@ -1,7 +1,7 @@
 -- Document 02, wish 7: the flaw that comes with the code of a typed station.
 use Prim.Native.Nat.{ℕ}
 use Rattle.fields.specs.Table.{stationTable}
-use Rattle.flaws.specs.Parts.{typedFlaws, flawWith}
+use Rattle.flaw_parts.specs.Parts.{typedFlaws, flawWith}
 use Rattle.flaws.specs.declared.Flaw.{Flaw}
 use Rattle.station.specs.Members.{valuesOf}
 use Rattle.station.specs.Codes.{typedCode}

@@ -1,6 +1,6 @@
 -- The flaws of a typed station in the five groups in which the code finds them. Nothing is meant here that the table does not say.
 use mathlib.Core.List.{List}
-use Rattle.flaws.specs.Parts.{typedFlaws}
+use Rattle.flaw_parts.specs.Parts.{typedFlaws}
 use Rattle.flaws.specs.declared.Flaw.{Flaw}
 use Rattle.station.specs.Members.{rows, channelValues, siteValues, emissionValues, antennaValues, coordinationValues}
 use Rattle.station.specs.declared.Channel.{Channel}

@@ -5,12 +5,13 @@ use denote.Ref.{now}
 use Prim.Native.Nat.{ℕ}
 use mathlib.Core.List.{List, []}
 use Rattle.numerals.specs.declared.Signed.{Signed}
-use Rattle.decimals.specs.Decimals.{decimalOf}
+use Rattle.decimals.specs.Decimals.{magnitudeOf, admitsDecimal, decimalOf}
 use Rattle.frequencies.specs.Frequencies.{aboveZero}
 use Rattle.fields.specs.Kinds.{amount}
 use Rattle.flaws.specs.Flaws.{ranged}
-use Rattle.flaws.specs.Parts.{admitsDecimal, flawAt}
-use Rattle.flaws.proofs.AdmittedLaws.{admitted}
+use Rattle.flaw_parts.specs.Parts.{flawAt}
+use Rattle.flaw_parts.proofs.AdmittedLaws.{admitted}
+use Rattle.numerals.proofs.NumberLaws.{number-carries}
 use Rattle.numerals.proofs.Signs.{in-bits}
 use Rattle.number_flaws.specs.Answers.{numberFlaw}
 use Rattle.number_flaws.proofs.AnswerLaws.{number-flaw}
@@ -19,20 +20,18 @@ use Rattle.number_flaws.proofs.amount_flaw.Statement.{statement}
 use Rattle.number_flaws.proofs.amount_flaw.Tie as tie
 
 -- the answer's flaw is the field's
-brings : (p : List ℕ) (v : Signed) → decimalOf 5 5 false p ≡ v → numberFlaw (admitsDecimal false) aboveZero p v ≡ flawAt 1 [] p
-brings p v e = number-flaw (admitsDecimal false) aboveZero (decimalOf 5 5 false) p (admitted amount 11 p) v e
+brings : (p : List ℕ) (v : Signed) → decimalOf 5 5 false p ≡ v → numberFlaw aboveZero v ≡ flawAt 1 [] p
+unfolding decimalOf
+brings p v e = number-flaw (admitsDecimal false) aboveZero (decimalOf 5 5 false) p (admitted amount 11 p) (number-carries false (admitsDecimal false) (magnitudeOf 5 5) p) v e
 
 read-decimal-requires : tie.Need-read-decimal-requires
 read-decimal-requires c κs = search needs
 
+enum-known-flaw : tie.Need-enum-known-flaw
+enum-known-flaw c = search needs
+
 enum-told : tie.Need-enum-told
 enum-told c = search needs
-
-unread-decimal-requires : tie.Need-unread-decimal-requires
-unread-decimal-requires c κs = search needs
-
-enum-told-2 : tie.Need-enum-told-2
-enum-told-2 c = search needs
 
 enum-known-v : tie.Need-enum-known-v
 enum-known-v c = search needs
@@ -44,22 +43,21 @@ range-flaw-requires : tie.Need-range-flaw-requires
 range-flaw-requires c κs = search needs
 
 returns : tie.Need-returns
-returns c = c .unread-decimal .ensures ∙ brings _ _ (sym (c .before .before .before .read-decimal .ensures) ∙ c .before .enum-told .given .1)
+returns c = brings _ _ (sym (c .before .before .before .read-decimal .ensures) ∙ c .before .flaw .given .1)
 
 returns-2 : tie.Need-returns-2
-returns-2 c = brings _ _ (sym (c .before .before .read-decimal .ensures) ∙ c .enum-told2 .given .1)
+returns-2 c = brings _ _ (sym (c .before .before .read-decimal .ensures) ∙ c .enum-told .given .1)
 
 returns-3 : tie.Need-returns-3
-returns-3 c = c .range-flaw .ensures ∙ rw (c .before .magnitude .ensures, in-bits _ (c .before .before .known-told .given .0 .1)) (brings _ _ (sym (c .before .before .before .before .before .read-decimal .ensures) ∙ c .before .before .before .v .given .1))
+returns-3 c = c .range-flaw .ensures ∙ rw (c .before .magnitude .ensures, in-bits _ (c .before .before .known-told2 .given .0 .1)) (brings _ _ (sym (c .before .before .before .before .before .read-decimal .ensures) ∙ c .before .before .before .v .given .1))
 
 pub amount-flaw-spec : {M : Type 1} → statement M
 amount-flaw-spec =
     tie.close
     (tie.spec
     read-decimal-requires
+    enum-known-flaw
     enum-told
-    unread-decimal-requires
-    enum-told-2
     enum-known-v
     magnitude-requires
     range-flaw-requires

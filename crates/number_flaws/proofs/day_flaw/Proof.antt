@@ -8,36 +8,32 @@ use Rattle.number_flaws.proofs.day_flaw.Tie as tie
 read-date-requires : tie.Need-read-date-requires
 read-date-requires c κs = search needs
 
+enum-known-flaw : tie.Need-enum-known-flaw
+enum-known-flaw c = search needs
+
 enum-told : tie.Need-enum-told
 enum-told c = search needs
-
-unread-date-requires : tie.Need-unread-date-requires
-unread-date-requires c κs = search needs
 
 enum-told-2 : tie.Need-enum-told-2
 enum-told-2 c = search needs
 
-enum-told-3 : tie.Need-enum-told-3
-enum-told-3 c = search needs
-
 returns : tie.Need-returns
-returns c = c .unread-date .ensures ∙ day-flaw _ _ (sym (c .before .before .before .read-date .ensures) ∙ c .before .enum-told .given .1)
+returns c = day-flaw _ _ (sym (c .before .before .before .read-date .ensures) ∙ c .before .flaw .given .1)
 
 returns-2 : tie.Need-returns-2
-returns-2 c = day-flaw _ _ (sym (c .before .before .read-date .ensures) ∙ c .enum-told2 .given .1)
+returns-2 c = day-flaw _ _ (sym (c .before .before .read-date .ensures) ∙ c .enum-told .given .1)
 
 returns-3 : tie.Need-returns-3
-returns-3 c = day-flaw _ _ (sym (c .before .before .read-date .ensures) ∙ c .enum-told3 .given .1)
+returns-3 c = day-flaw _ _ (sym (c .before .before .read-date .ensures) ∙ c .enum-told2 .given .1)
 
 pub day-flaw-spec : {M : Type 1} → statement M
 day-flaw-spec =
     tie.close
     (tie.spec
     read-date-requires
+    enum-known-flaw
     enum-told
-    unread-date-requires
     enum-told-2
-    enum-told-3
     returns
     returns-2
     returns-3)

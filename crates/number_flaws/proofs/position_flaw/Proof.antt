@@ -1,40 +1,26 @@
--- `number_flaws::position_flaw` meets its contract.
+-- `number_flaws::position_flaw` meets its contract: each arm is the flaw that the answer brings.
 use mathlib.Core.Path.{sym, _∙_}
-use Rattle.number_flaws.proofs.AnswerLaws.{place-kept, place-outside, place-unread}
-use Rattle.number_flaws.proofs.Letters.{places-letters}
+use Rattle.number_flaws.proofs.AnswerLaws.{place-flaw}
 use borrow.Author.Needs.{needs}
 use Rattle.number_flaws.proofs.position_flaw.Statement.{statement}
 use Rattle.number_flaws.proofs.position_flaw.Tie as tie
 
-is-position-requires : tie.Need-is-position-requires
-is-position-requires c κs = search needs
+read-position-requires : tie.Need-read-position-requires
+read-position-requires c κs = search needs
+
+enum-known-flaw : tie.Need-enum-known-flaw
+enum-known-flaw c = search needs
+
+enum-told : tie.Need-enum-told
+enum-told c = search needs
 
 returns : tie.Need-returns
-returns c = place-kept _ (sym (c .before .is-position .ensures) ∙ c .if1 .taken)
-
-reads-position-requires : tie.Need-reads-position-requires
-reads-position-requires c κs = search needs
+returns c = place-flaw _ _ (sym (c .before .before .before .read-position .ensures) ∙ c .before .flaw .given .1)
 
 returns-2 : tie.Need-returns-2
-returns-2 c = place-outside _ (sym (c .before .before .before .is-position .ensures) ∙ c .before .before .if1 .left) (sym (c .before .reads-position .ensures) ∙ c .if2 .taken)
-
-slice-aggregate-unread-of : tie.Need-slice-aggregate-unread-of
-slice-aggregate-unread-of c = search needs
-
-unread-of-requires : tie.Need-unread-of-requires
-unread-of-requires c κs = search needs
-
-returns-3 : tie.Need-returns-3
-returns-3 c = c .unread-of .ensures ∙ places-letters _ ∙ place-unread _ (sym (c .before .before .before .reads-position .ensures) ∙ c .before .before .if2 .left)
+returns-2 c = place-flaw _ _ (sym (c .before .before .read-position .ensures) ∙ c .enum-told .given .1)
 
 pub position-flaw-spec : {M : Type 1} → statement M
 position-flaw-spec =
     tie.close
-    (tie.spec
-    is-position-requires
-    returns
-    reads-position-requires
-    returns-2
-    slice-aggregate-unread-of
-    unread-of-requires
-    returns-3)
+    (tie.spec read-position-requires enum-known-flaw enum-told returns returns-2)

@@ -4,8 +4,7 @@ use Rattle.columns.specs.Sets.{among}
 use Rattle.columns.specs.Texts.{bytes}
 use Rattle.flaws.specs.Flaws.{letterOf}
 use Rattle.flaws.proofs.SetsAlike.{among-letters, every-alike}
-use Rattle.number_flaws.proofs.AnswerLaws.{unit-kept, unit-odd, unit-strange, unit-unread}
-use Rattle.number_flaws.proofs.Letters.{unit-letters}
+use Rattle.number_flaws.proofs.AnswerLaws.{unit-letters, unit-kept, unit-odd, unit-strange, unit-unread}
 use borrow.Author.Needs.{needs}
 use Rattle.number_flaws.proofs.unit_flaw.Statement.{statement}
 use Rattle.number_flaws.proofs.unit_flaw.Tie as tie

@@ -1,7 +1,7 @@
 -- `number_flaws::whole_flaw` meets its contract.
 use mathlib.Core.Path.{refl, sym, _∙_}
-use Rattle.flaws.proofs.SplitLaws.{kept, broken}
-use Rattle.number_flaws.proofs.Letters.{plain-whole}
+use Rattle.flaw_parts.proofs.SplitLaws.{kept, broken}
+use Rattle.numerals.proofs.Letters.{plain-whole}
 use borrow.Author.Needs.{needs}
 use Rattle.number_flaws.proofs.whole_flaw.Statement.{statement}
 use Rattle.number_flaws.proofs.whole_flaw.Tie as tie

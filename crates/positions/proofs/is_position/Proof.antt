@@ -3,7 +3,8 @@ use mathlib.Core.Path.{_≡_, refl, sym, ap, _∙_}
 use mathlib.Core.Bool.{Bool, true, false, cond}
 use mathlib.Core.List.{List}
 use Prim.Native.Nat.{ℕ}
-use Rattle.positions.specs.Positions.{positionGood, positionOf, locatedOf}
+use Rattle.flaws.specs.declared.Flaw.{Flaw}
+use Rattle.positions.specs.Positions.{positionGood, positionOf, unreadPosition, locatedOf}
 use Rattle.positions.specs.declared.Position.{Position}
 use Rattle.positions.specs.declared.Located.{Located}
 use Rattle.positions.specs.declared.Located.the-variants as located
@@ -13,15 +14,15 @@ use Rattle.positions.proofs.is_position.Tie as tie
 
 -- a position was read
 found : Located → Bool
-found located.Bad = false
+found (located.Bad wrong) = false
 found (located.Filled p) = true
 
 found-good : (p : List ℕ) → found (locatedOf p) ≡ positionGood p
 unfolding locatedOf found
-found-good p = by (positionGood p) (positionOf p) where
-  by : (b : Bool) (v : Position) → found (cond b (located.Filled v) located.Bad) ≡ b
-  by true v = refl
-  by false v = refl
+found-good p = by (positionGood p) (positionOf p) (unreadPosition p) where
+  by : (b : Bool) (v : Position) (wrong : Flaw) → found (cond b (located.Filled v) (located.Bad wrong)) ≡ b
+  by true v wrong = refl
+  by false v wrong = refl
 
 read-position-requires : tie.Need-read-position-requires
 read-position-requires c κs = search needs

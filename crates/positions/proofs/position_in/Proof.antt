@@ -14,7 +14,7 @@ use Rattle.positions.proofs.position_in.Tie as tie
 
 -- the position that was read, and where none was, the one of no degrees
 place : Located → Position
-place located.Bad = record { east = pos 0; north = pos 0 }
+place (located.Bad wrong) = record { east = pos 0; north = pos 0 }
 place (located.Filled p) = p
 
 place-good : (p : List ℕ) → positionGood p ≡ true → place (locatedOf p) ≡ positionOf p

@@ -5,7 +5,7 @@ use denote.Ref.{now}
 use Rattle.fields.specs.Table.{fitsAt}
 use Rattle.station.specs.Places.{fieldsOf}
 use Rattle.station_flaws.specs.Calls.{recordFlaw}
-use Rattle.flaws.proofs.CodeLaws.{past, coded}
+use Rattle.flaw_parts.proofs.CodeLaws.{past, coded}
 use borrow.Author.Needs.{needs}
 use Rattle.station_flaws.proofs.antenna_part_flaw.Statement.{statement}
 use Rattle.station_flaws.proofs.antenna_part_flaw.Tie as tie

@@ -8,7 +8,7 @@ use Rattle.station_flaws.specs.Calls.{recordFlaw}
 use mathlib.Core.Bool.{cond}
 use mathlib.Core.List.{[]}
 use Rattle.flaws.specs.declared.Flaw.the-variants as flaw
-use Rattle.flaws.proofs.CodeLaws.{past, coded, beyond, byte-there}
+use Rattle.flaw_parts.proofs.CodeLaws.{past, coded, beyond, byte-there}
 use borrow.Author.Needs.{needs}
 use Rattle.station_flaws.proofs.coordination_flaw.Statement.{statement}
 use Rattle.station_flaws.proofs.coordination_flaw.Tie as tie

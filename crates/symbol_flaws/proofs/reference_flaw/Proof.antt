@@ -1,6 +1,6 @@
 -- `symbol_flaws::reference_flaw` meets its contract.
 use mathlib.Core.Path.{refl, sym, _∙_}
-use Rattle.flaws.proofs.SplitLaws.{kept, broken}
+use Rattle.flaw_parts.proofs.SplitLaws.{kept, broken}
 use Rattle.symbol_flaws.proofs.AdmittedLetters.{reference-set}
 use borrow.Author.Needs.{needs}
 use Rattle.symbol_flaws.proofs.reference_flaw.Statement.{statement}

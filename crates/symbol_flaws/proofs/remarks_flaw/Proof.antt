@@ -1,6 +1,6 @@
 -- `symbol_flaws::remarks_flaw` meets its contract.
 use mathlib.Core.Path.{refl, sym, _∙_}
-use Rattle.flaws.proofs.SplitLaws.{kept, broken}
+use Rattle.flaw_parts.proofs.SplitLaws.{kept, broken}
 use borrow.Author.Needs.{needs}
 use Rattle.symbol_flaws.proofs.remarks_flaw.Statement.{statement}
 use Rattle.symbol_flaws.proofs.remarks_flaw.Tie as tie

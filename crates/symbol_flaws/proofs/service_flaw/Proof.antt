@@ -1,7 +1,7 @@
 -- `symbol_flaws::service_flaw` meets its contract.
 use mathlib.Core.Path.{refl, sym, _∙_}
 use mathlib.Core.List.{[], _∷_}
-use Rattle.flaws.proofs.SplitLaws.{kept, broken}
+use Rattle.flaw_parts.proofs.SplitLaws.{kept, broken}
 use Rattle.symbol_flaws.proofs.AdmittedLetters.{choice-letters}
 use borrow.Author.Needs.{needs}
 use Rattle.symbol_flaws.proofs.service_flaw.Statement.{statement}

@@ -1,6 +1,6 @@
 -- `symbol_flaws::users_flaw` meets its contract.
 use mathlib.Core.Path.{refl, sym, _∙_}
-use Rattle.flaws.proofs.SplitLaws.{kept, broken}
+use Rattle.flaw_parts.proofs.SplitLaws.{kept, broken}
 use Rattle.symbol_flaws.proofs.AdmittedLetters.{user-letters}
 use borrow.Author.Needs.{needs}
 use Rattle.symbol_flaws.proofs.users_flaw.Statement.{statement}

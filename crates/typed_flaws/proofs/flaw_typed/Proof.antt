@@ -3,7 +3,7 @@ use Prim.Native.Nat.{_≤_, _<_}
 use mathlib.Core.Path.{refl, _∙_}
 use mathlib.Core.List.{[], _++_}
 use native.Mathlib.Omega.{arith}
-use Rattle.flaws.proofs.CodeLaws.{past, coded, of-group, of-last}
+use Rattle.flaw_parts.proofs.CodeLaws.{past, coded, of-group, of-last}
 use Rattle.typed_flaws.specs.Groups.{channelFlaws, siteFlaws, emissionFlaws, antennaFlaws, coordinationFlaws}
 use Rattle.typed_flaws.specs.Calls.{flawTyped}
 use borrow.Author.Needs.{needs}

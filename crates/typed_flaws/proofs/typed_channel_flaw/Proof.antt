@@ -8,7 +8,7 @@ use lib.ListN.{getD, List·getD-eq-default}
 use Rattle.fields.specs.Table.{fitsAt}
 use Rattle.flaws.specs.Flaws.{ranged}
 use Rattle.flaws.specs.declared.Flaw.the-variants as flaw
-use Rattle.flaws.proofs.CodeLaws.{past, coded, byte-alone}
+use Rattle.flaw_parts.proofs.CodeLaws.{past, coded, byte-alone}
 use Rattle.typed_flaws.specs.Groups.{channelFlaws}
 use borrow.Author.Needs.{needs}
 use Rattle.typed_flaws.proofs.typed_channel_flaw.Statement.{statement}

@@ -1,7 +1,7 @@
 -- `explaining::reasons::name_of` meets its contract, field by field.
 use mathlib.Core.Path.{refl}
 use Rattle.columns.specs.Texts.{skip, trimmed}
-use Rattle.flaws.proofs.CodeLaws.{past}
+use Rattle.flaw_parts.proofs.CodeLaws.{past}
 use Rattle.explaining.proofs.ReasonLaws.{named, no-name}
 use Rattle.explaining.specs.Words.{nameAt}
 use borrow.Author.Needs.{needs}

@@ -11,9 +11,9 @@ use lib.ListN.{length, getD, take, drop, length-append, List·getD-eq-default}
 use lib.Seq.{drop-cons}
 use borrow.Author.Tests.{le-leb, lt-leb, leb-true, leb-false}
 use Rattle.columns.specs.Texts.{every, each, byteGood}
-use Rattle.flaws.specs.Parts.{plain, flawIn, flawWith}
+use Rattle.flaw_parts.specs.Parts.{plain, flawIn, flawWith}
 use Rattle.flaws.specs.declared.Flaw.{Flaw}
 use Rattle.flaws.specs.declared.Flaw.the-variants as flaw
 
 -- a code that is another is passed
 pub past : (k c : ℕ) → k ≤ c → (c ≡ k → ⊥) → suc k ≤ c

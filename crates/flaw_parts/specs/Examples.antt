@@ -5,15 +5,15 @@ use Prim.Native.Nat.{ℕ}
 use Prim.Native.String.{String}
 use Rattle.columns.specs.Sets.{among, isHex, isText, isNarrow, isName}
 use Rattle.columns.specs.Texts.{bytes, skip, trimmed, every, howMany, each, byteGood, same, oneOf}
-use Rattle.numerals.specs.Numbers.{leading, numberFrom, wholeDigits, wholeOf, unsigned, signedOf}
-use Rattle.decimals.specs.Decimals.{fractionOf, magnitudeOf, decimalOf}
-use Rattle.days.specs.Dates.{dateRule, dateIn}
+use Rattle.numerals.specs.Numbers.{leading, numberFrom, wholeDigits, wholeOf, admitsWhole, unsigned, signedOf}
+use Rattle.decimals.specs.Decimals.{fractionOf, magnitudeOf, admitsDecimal, decimalOf}
+use Rattle.days.specs.Dates.{dateRule, dateIn, dateReads}
 use Rattle.frequencies.specs.Frequencies.{unitGood}
-use Rattle.positions.specs.Positions.{arcSeconds}
+use Rattle.positions.specs.Positions.{arcSeconds, admitsPosition, arcReads, positionReads}
 use Rattle.emissions.specs.Emission.{bandwidthGood, detailGood, emissionGood}
 use Rattle.remarks.specs.Remarks.{cellGood, installationGood, remarksGood}
 use Rattle.flaws.specs.Flaws.{flawNumber}
-use Rattle.flaws.specs.Parts.{inSome, atSome, admitsWhole, admitsDecimal, admitsPosition, dateReads, dayReads, arcReads, positionReads, dateWithin, dayWithin, arcWithin, positionWithin, flawAt}
+use Rattle.flaw_parts.specs.Parts.{inSome, atSome, dayReads, dateWithin, dayWithin, arcWithin, positionWithin, flawAt}
 
 -- The numbers of the flaws of some texts in field number k, behind the field that stands before it: none 0, byte 1, range 2, shape 3.
 abbrev flaws : ℕ → String → List String → List ℕ

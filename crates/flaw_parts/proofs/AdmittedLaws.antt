@@ -15,15 +15,17 @@ use borrow.Author.Tests.{eqb-true, leb-true, le-leb}
 use Rattle.columns.specs.Sets.{is, among, between, isDigit, isUpper, isLower, isHex, isText}
 use Rattle.columns.specs.Texts.{bytes, head, ended, skip, blank, trimmed, every, each, byteGood, same, oneOf, howMany, sized, textGood}
 use Rattle.columns.proofs.TextLaws.{and-split, and-both, cond-case, every-end, each-replicate}
-use Rattle.numerals.specs.Numbers.{mostDigits, leading, after, wholeDigits, wholeOf, wholeFilled, numberOf, signedOf}
+use Rattle.numerals.specs.Numbers.{mostDigits, leading, after, wholeDigits, wholeOf, wholeFilled, admitsWhole, numberOf, signedOf}
 use Rattle.numerals.specs.declared.Whole.{Whole}
-use Rattle.decimals.specs.Decimals.{magnitudeOf, decimalOf}
+use Rattle.decimals.specs.Decimals.{magnitudeOf, admitsDecimal, decimalOf}
+use Rattle.days.specs.Dates.{dateReads}
+use Rattle.positions.specs.Positions.{admitsPosition, wholeReads, arcReads, positionReads}
 use Rattle.emissions.specs.Emission.{isModulation, isSignal, isInformation, isDetail, isMultiplex, bandwidthGood, detailGood, emissionGood}
 use Rattle.remarks.specs.Remarks.{cellGood, installationGood, remarksGood}
 use Rattle.serials.specs.Serials.{serialGood, serialPasses}
 use Rattle.fields.specs.Kinds.{TextRule, places, word, leftText, literal, emission, Kind, amount, unit, byte, choice, text, dropped, remarks, date, dateOrBlank, tenths, kilometres, metres, metresOrBlank, position, whole, wholeOrBlank, textKeeps}
-use Rattle.flaws.specs.Parts.{inSome, atSome, admitsWhole, admitsDecimal, admitsPosition, emissionSets, admitsText, numberReads, dateReads, dayReads, wholeReads, arcReads, positionReads, Parts, parts}
-use Rattle.flaws.proofs.EveryLaws.{or-left, or-right, or-case, every-wider, every-parts, every-at, every-skip, every-blank, every-trimmed, whole-digits-in, whole-in, magnitude-in, number-in, same-in, one-in, each-in, byte-in}
+use Rattle.flaw_parts.specs.Parts.{inSome, atSome, emissionSets, admitsText, numberReads, dayReads, Parts, parts}
+use Rattle.flaw_parts.proofs.EveryLaws.{or-left, or-right, or-case, every-wider, every-parts, every-at, every-skip, every-blank, every-trimmed, whole-digits-in, whole-in, magnitude-in, number-in, same-in, one-in, each-in, byte-in}
 
 whole-digit : (sign : Bool) (c : ℕ) → isDigit c ≡ true → admitsWhole sign c ≡ true
 unfolding admitsWhole
@@ -60,13 +62,13 @@ decimal-admitted a b sign p =
     let S = admitsDecimal sign in
     let sp = decimal-space sign in
     let dg = decimal-digit sign in
-    number-in S sp dg sign (decimal-mark sign) (magnitudeOf a b) (magnitude-in S sp dg (decimal-point sign) a b) p
+    number-in S sp dg sign (decimal-mark sign) S (magnitudeOf a b) (magnitude-in S sp dg (decimal-point sign) a b) p
 
 signed-admitted : (p : List ℕ) → numberReads (signedOf p) ≡ true → every (admitsWhole true) p ≡ true
 unfolding signedOf
 signed-admitted p =
     let S = admitsWhole true in
-    number-in S (whole-space true) (whole-digit true) true (whole-mark true) wholeDigits (whole-digits-in S (whole-digit true)) p
+    number-in S (whole-space true) (whole-digit true) true (whole-mark true) S wholeDigits (whole-digits-in S (whole-digit true)) p
 
 whole-admitted : (p : List ℕ) → wholeFilled (wholeOf p) ≡ true → every (admitsWhole false) p ≡ true
 whole-admitted p = whole-in (admitsWhole false) (whole-space false) (whole-digit false) p

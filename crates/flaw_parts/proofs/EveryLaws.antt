@@ -17,7 +17,9 @@ use Rattle.numerals.specs.declared.Whole.{Whole}
 use Rattle.numerals.specs.declared.Whole.the-variants as whole
 use Rattle.numerals.specs.declared.Signed.{Signed}
 use Rattle.decimals.specs.Decimals.{fractionOf, magnitudeOf}
-use Rattle.flaws.specs.Parts.{inSome, atSome, numberReads}
+use Rattle.flaws.specs.Flaws.{unread}
+use Rattle.flaws.specs.declared.Flaw.{Flaw}
+use Rattle.flaw_parts.specs.Parts.{inSome, atSome, numberReads}
 
 pub or-left : (a b : Bool) → a ≡ true → (a || b) ≡ true
 or-left a b e = rw e
@@ -135,16 +137,16 @@ module _ (S : ℕ → Bool) where
             (λ q f. let h = and-split sign (among "+-" c) q in and-both (S c) (every S t) (mark (h .0) c (h .1)) f)
             (λ q f. f) e
 
-        pub in-sign : (minus : Bool) (w : Whole) → numberReads (inSign minus w) ≡ true → wholeFilled w ≡ true
-        in-sign minus whole.Bad e = e
-        in-sign minus whole.Blank e = e
-        in-sign minus (whole.Filled v) e = e
+        pub in-sign : (wrong : Flaw) (minus : Bool) (w : Whole) → numberReads (inSign wrong minus w) ≡ true → wholeFilled w ≡ true
+        in-sign wrong minus whole.Bad e = e
+        in-sign wrong minus whole.Blank e = e
+        in-sign wrong minus (whole.Filled v) e = e
 
-        pub number-in : (d : List ℕ → Whole) → ((t : List ℕ) → wholeFilled (d t) ≡ true → every S t ≡ true) → (p : List ℕ) → numberReads (numberOf sign d p) ≡ true → every S p ≡ true
-        number-in d h p =
+        pub number-in : (admits : ℕ → Bool) (d : List ℕ → Whole) → ((t : List ℕ) → wholeFilled (d t) ≡ true → every S t ≡ true) → (p : List ℕ) → numberReads (numberOf sign admits d p) ≡ true → every S p ≡ true
+        number-in admits d h p =
             cond-case (λ (w : Signed). numberReads w ≡ true → every S p ≡ true) (ended (skip p))
             (λ q e. every-blank p q)
-            (λ q e. every-skip p (unsigned-in (skip p) (h (unsigned sign (skip p)) (in-sign (hasMinus sign (skip p)) (d (unsigned sign (skip p))) e))))
+            (λ q e. every-skip p (unsigned-in (skip p) (h (unsigned sign (skip p)) (in-sign (unread admits p) (hasMinus sign (skip p)) (d (unsigned sign (skip p))) e))))
 
   -- a literal, one of some, and a test for each place
   pub same-in : (x : String) → ((c : ℕ) → among x c ≡ true → S c ≡ true) → (p : List ℕ) → same (bytes x) p ≡ true → every S p ≡ true

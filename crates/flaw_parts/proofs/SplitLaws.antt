@@ -16,28 +16,28 @@ use Rattle.numerals.specs.declared.Signed.{Signed}
 use Rattle.numerals.specs.declared.Signed.the-variants as signed
 use Rattle.decimals.specs.Decimals.{decimalOf}
 use Rattle.formats.specs.Tenths.{tenthsGood}
-use Rattle.days.specs.Dates.{dateOf, dateIn, dateRule, dayPasses, dateFilled, dayGood, dateGood}
+use Rattle.days.specs.Dates.{dateReads, unreadDate, dateOf, dateIn, dateRule, dayPasses, dateFilled, dayGood, dateGood}
 use Rattle.days.specs.declared.dates.Dated.the-variants as dated
 use Rattle.frequencies.specs.Frequencies.{aboveZero, amountGood, unitGood}
 use Rattle.distances.specs.Distances.{heightRange, heightGood}
-use Rattle.positions.specs.Positions.{wholeAt, arcSeconds, arcGood, positionGood}
+use Rattle.positions.specs.Positions.{wholeAt, arcSeconds, arcGood, positionGood, wholeReads, arcReads, positionReads}
 use Rattle.remarks.specs.Remarks.{remarksGood}
 use Rattle.serials.specs.Serials.{serialGood}
 use Rattle.basics.specs.Fields.{at}
 use Rattle.fields.specs.Kinds.{Kind, amount, unit, byte, choice, text, dropped, remarks, date, dateOrBlank, tenths, kilometres, metres, metresOrBlank, position, whole, wholeOrBlank, Meaning, textKeeps, meaning}
 use Rattle.fields.specs.Rows.{Row, Values, rulesFrom, fitsOf, rowBehind}
 use Rattle.fields.specs.Table.{stationTable}
 use Rattle.flaws.specs.Flaws.{flawless, unread, ranged}
-use Rattle.flaws.specs.Parts.{numberReads, dateReads, dayReads, wholeReads, arcReads, positionReads, numberWithin, dateWithin, dayWithin, arcWithin, positionWithin, Parts, wholeThere, parts, flawIn, flawBy, flawsFrom, keptAsBytes, typedFlawBy, typedFlaws, flawAt}
+use Rattle.flaw_parts.specs.Parts.{numberReads, dayReads, numberWithin, dateWithin, dayWithin, arcWithin, positionWithin, Parts, wholeThere, parts, flawIn, flawBy, flawsFrom, keptAsBytes, typedFlawBy, typedFlaws, flawAt}
 use Rattle.flaws.specs.declared.Flaw.{Flaw}
 use Rattle.flaws.specs.declared.Flaw.the-variants as flaw
-use Rattle.flaws.proofs.AdmittedLaws.{all-in, allIn, admitted}
+use Rattle.flaw_parts.proofs.AdmittedLaws.{all-in, allIn, admitted}
 
 -- ---- a rule holds where the field is read and in range
 
 -- numbers,
 number-split : (range : ℤ → Bool) (v : Signed) → passes range v ≡ (numberReads v && numberWithin range v)
-number-split range signed.Bad = refl
+number-split range (signed.Bad wrong) = refl
 number-split range signed.Blank = refl
 number-split range (signed.Filled z) = refl
 
@@ -83,12 +83,12 @@ absorbed false false h = refl
 -- dates,
 day-split : (p : List ℕ) → dayGood p ≡ (dayReads p && dayWithin p)
 unfolding dayGood dateOf dayReads dayWithin dateReads dateWithin
-day-split p = by (blank p) (each (replicate 8 isDigit) p) (dateRule (dateIn p)) where
-  by : (b e r : Bool) → dayPasses (cond b dated.Blank (cond (e && r) (dated.Filled (dateIn p)) dated.Bad)) ≡ ((b || e) && (b || r))
-  by true e r = refl
-  by false true true = refl
-  by false true false = refl
-  by false false r = refl
+day-split p = by (unreadDate p) (blank p) (each (replicate 8 isDigit) p) (dateRule (dateIn p)) where
+  by : (x : Flaw) (b e r : Bool) → dayPasses (cond b dated.Blank (cond (e && r) (dated.Filled (dateIn p)) (dated.Bad x))) ≡ ((b || e) && (b || r))
+  by x true e r = refl
+  by x false true true = refl
+  by x false true false = refl
+  by x false false r = refl
 
 -- eight digits are not blank
 digit-no-space : (c : ℕ) → isDigit c ≡ true → is " " c ≡ false
@@ -101,13 +101,13 @@ digits-unblank (c ∷ p) e = rw (digit-no-space c (and-split (isDigit c) (each (
 
 date-split : (p : List ℕ) → dateGood p ≡ (dateReads p && dateWithin p)
 unfolding dateGood dateOf dateReads dateWithin
-date-split p = by (blank p) (each (replicate 8 isDigit) p) (dateRule (dateIn p)) (digits-unblank p) where
-  by : (b e r : Bool) → (e ≡ true → b ≡ false) → dateFilled (cond b dated.Blank (cond (e && r) (dated.Filled (dateIn p)) dated.Bad)) ≡ (e && r)
-  by true true r h = absurd (false≢true (sym (h refl)))
-  by true false r h = refl
-  by false true true h = refl
-  by false true false h = refl
-  by false false r h = refl
+date-split p = by (unreadDate p) (blank p) (each (replicate 8 isDigit) p) (dateRule (dateIn p)) (digits-unblank p) where
+  by : (x : Flaw) (b e r : Bool) → (e ≡ true → b ≡ false) → dateFilled (cond b dated.Blank (cond (e && r) (dated.Filled (dateIn p)) (dated.Bad x))) ≡ (e && r)
+  by x true true r h = absurd (false≢true (sym (h refl)))
+  by x true false r h = refl
+  by x false true true h = refl
+  by x false true false h = refl
+  by x false false r h = refl
 
 -- and 4C
 arc-split : (d : ℕ) (letters : String) (degrees : ℕ) (p : List ℕ) → arcGood d letters degrees p ≡ (arcReads d letters p && arcWithin d degrees p)

@@ -8,24 +8,24 @@ use lib.Dec.{leb}
 use lib.IntN.{ℤ}
 use Rattle.columns.specs.Sets.{is, among, isDigit, isText}
 use Rattle.columns.specs.Texts.{blank, every, each, byteGood, oneOf, sized}
-use Rattle.numerals.specs.Numbers.{wholeOf, wholeFilled, signedOf}
+use Rattle.numerals.specs.Numbers.{wholeOf, wholeFilled, admitsWhole, signedOf}
 use Rattle.numerals.specs.declared.Signed.{Signed}
 use Rattle.numerals.specs.declared.Signed.the-variants as signed
-use Rattle.decimals.specs.Decimals.{decimalOf}
-use Rattle.days.specs.Dates.{dateRule, dateIn}
+use Rattle.decimals.specs.Decimals.{admitsDecimal, decimalOf}
+use Rattle.days.specs.Dates.{dateReads, dateRule, dateIn}
 use Rattle.basics.specs.Fields.{at}
 use Rattle.frequencies.specs.Frequencies.{aboveZero, unitGood}
 use Rattle.distances.specs.Distances.{heightRange}
-use Rattle.positions.specs.Positions.{wholeAt, arcSeconds}
+use Rattle.positions.specs.Positions.{wholeAt, arcSeconds, admitsPosition, positionReads}
 use Rattle.emissions.specs.Emission.{isModulation, isSignal, isInformation, isDetail, isMultiplex}
 use Rattle.remarks.specs.Remarks.{remarksGood}
 use Rattle.serials.specs.Serials.{serialGood}
 use Rattle.fields.specs.Kinds.{TextRule, places, word, leftText, literal, emission, Kind, amount, unit, byte, choice, text, dropped, remarks, date, dateOrBlank, tenths, kilometres, metres, metresOrBlank, position, whole, wholeOrBlank, Meaning, textKeeps, meaning}
 use Rattle.fields.specs.Rows.{Row, Values, rowBehind}
 use Rattle.fields.specs.Table.{stationTable}
 use Rattle.flaws.specs.Flaws.{ranged}
 use Rattle.flaws.specs.declared.Flaw.{Flaw}
 use Rattle.flaws.specs.declared.Flaw.the-variants as flaw
 
 -- ---- the bytes that a field admits: those of all its places together, a space only where the rule has one
 
@@ -34,22 +34,10 @@ unfoldable pub inSome : List String → ℕ → Bool
 inSome [] c = false
 inSome (x ∷ xs) c = among x c || inSome xs c
 
--- and one that some place takes.
+-- one that some place takes,
 unfoldable pub atSome : List (ℕ → Bool) → ℕ → Bool
 atSome [] c = false
 atSome (test ∷ tests) c = test c || atSome tests c
-
--- A whole number, with a sign or without,
-unfoldable pub admitsWhole : Bool → ℕ → Bool
-admitsWhole sign c = isDigit c || is " " c || (sign && among "+-" c)
-
--- a decimal,
-unfoldable pub admitsDecimal : Bool → ℕ → Bool
-admitsDecimal sign c = admitsWhole sign c || is "." c
-
--- 4C,
-unfoldable pub admitsPosition : ℕ → Bool
-admitsPosition c = admitsWhole false c || among "EW" c || among "NS" c
 
 -- 7A, whose places have these sets,
 abbrev pub emissionSets : List (ℕ → Bool)
@@ -67,32 +55,18 @@ admitsText emission c = atSome emissionSets c
 
 -- A number, or blank,
 abbrev pub numberReads : Signed → Bool
-numberReads signed.Bad = false
+numberReads (signed.Bad wrong) = false
 numberReads signed.Blank = true
 numberReads (signed.Filled z) = true
 
--- eight digits,
-unfoldable pub dateReads : List ℕ → Bool
-dateReads p = each (replicate 8 isDigit) p
-
--- or blank,
+-- a date or blank; a date and 4C say with their readers what can be read.
 unfoldable pub dayReads : List ℕ → Bool
 dayReads p = blank p || dateReads p
-
--- and 4C, whose six whole numbers and two letters stand in their columns.
-abbrev pub wholeReads : ℕ → ℕ → List ℕ → Bool
-wholeReads i w p = wholeFilled (wholeOf (take w (drop i p)))
-
-unfoldable pub arcReads : ℕ → String → List ℕ → Bool
-arcReads d letters p = wholeReads 0 d p && among letters (getD p d 0) && wholeReads (d + 1) 2 p && wholeReads (d + 3) 2 p
-
-unfoldable pub positionReads : List ℕ → Bool
-positionReads p = sized 15 p && arcReads 3 "EW" (take 8 p) && arcReads 2 "NS" (drop 8 p)
 
 -- ---- what is read is in range; blank always is
 
 abbrev pub numberWithin : (ℤ → Bool) → Signed → Bool
-numberWithin range signed.Bad = true
+numberWithin range (signed.Bad wrong) = true
 numberWithin range signed.Blank = true
 numberWithin range (signed.Filled z) = range z
 

@@ -1,0 +1,5 @@
+pub mod EveryLaws
+pub mod AdmittedLaws
+pub mod SplitLaws
+pub mod CodeLaws
+pub mod SortedLaws
