@@ -1,3 +1,2 @@
-pub mod ReasonLaws
 pub mod RowLaws
 pub mod Unique

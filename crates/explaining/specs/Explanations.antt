@@ -10,7 +10,7 @@ use Rattle.forms.specs.OwnForm.{rowIn, twinIn, clashIn, bad, headIn}
 use Rattle.sheet.specs.Sheets.{sheetOf}
 use Rattle.printing.specs.Lines.{labelled, lineFeed, refusedLine, headerLine, totalLine}
 use Rattle.files.specs.Calls.{lengthOutcome}
-use Rattle.explaining.specs.Words.{reasonText}
+use Rattle.reasons.specs.Reasons.{reasonText}
 
 -- ` twin T clash H`, the end of a line.
 unfoldable pub lineEnd : ℕ → ℕ → List ℕ

@@ -1,5 +1,4 @@
 // What is explained of a file: the lines of the sheet judged from it, each bad row with the field, its bytes and what is wrong with it.
-use crate::reasons::put_reason;
 use basics::outcomes::is_done;
 use basics::outcomes::refusal_number;
 use files::lengths::check_file;
@@ -18,6 +17,7 @@ use printing::lines::put_refused;
 use printing::lines::put_total;
 use printing::pieces::put_labelled;
 use printing::pieces::put_text;
+use reasons::put_reason;
 use sheet::judging::LONGEST_SHEET;
 use sheet::judging::judge_sized;
 ghost use mathlib.Core.Path.{_≡_};
@@ -34,8 +34,6 @@ ghost use Rattle.files.specs.Calls.{lengthOutcome};
 ghost use Rattle.printing.specs.Promises.{Appended};
 ghost use Rattle.explaining.specs.Explanations.{lineEnd, explainedLine, rowExplained, sheetExplained};
 ghost use Rattle.explaining.specs.Promises.{ExplanationWritten};
-
-mod reasons;
 
 // Puts in the end of a station's line, its twin and its clash, and answers where it ends.
 fn put_ending(out: &mut [u8], start: usize, twin: u16, clash: u16) -> usize

@@ -1,32 +1,18 @@
--- Document 02, wish 7: what is wrong with a field, in words.
+-- Document 02, wish 7: what is wrong with a record by one of its codes, in words.
 use Prim.Native.Nat.{ℕ, _+_, _-_}
 use mathlib.Core.Bool.{cond, _||_}
 use mathlib.Core.List.{List, [], _++_}
 use lib.Dec.{eqb, ltb}
 use lib.ListN.{length, take, drop}
 use Rattle.columns.specs.Texts.{bytes}
+use Rattle.wording.specs.Words.{flawWords, nameAt}
 use Rattle.basics.specs.Fields.{placeOf}
-use Rattle.fields.specs.Rows.{Row, rowBehind}
 use Rattle.fields.specs.Table.{stationTable}
-use Rattle.flaws.specs.declared.Flaw.{Flaw}
-use Rattle.flaws.specs.declared.Flaw.the-variants as flaw
 use Rattle.printing.specs.Lines.{labelled}
 use Rattle.station.specs.Places.{stationPlaces}
 use Rattle.station_flaws.specs.Calls.{recordFlaw}
 
--- A flaw in words, behind a space; none has no words.
-abbrev pub flawWords : Flaw → List ℕ
-flawWords flaw.None = []
-flawWords flaw.Byte = bytes " byte not admitted"
-flawWords flaw.Range = bytes " out of range"
-flawWords flaw.Shape = bytes " cannot be read"
-flawWords flaw.Between = bytes " between fields"
-
--- The name of field number k, as the table has it.
-unfoldable pub nameAt : ℕ → List ℕ
-nameAt k = bytes (rowBehind stationTable (k - 1) .name)
-
--- Its columns, of which one alone has one number.
+-- A field's columns, of which one alone has one number.
 unfoldable pub columnsText : ℕ → ℕ → List ℕ
 columnsText first len = cond (eqb len 1) (labelled " column " first) (labelled " columns " first ++ labelled "-" (first + len - 1))
 

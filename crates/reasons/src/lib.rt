@@ -5,63 +5,35 @@ use places::station_place;
 use printing::pieces::put_labelled;
 use printing::pieces::put_text;
 use station_flaws::record_flaw;
+use wording::field_name;
+use wording::flaw_words;
 ghost use mathlib.Core.Path.{_≡_};
 ghost use mathlib.Core.List.{_++_};
 ghost use Prim.Native.Nat.{_+_, _≤_};
 ghost use lib.ListN.{length, take, drop};
 ghost use Rattle.columns.specs.Texts.{bytes, trimmed};
 ghost use Rattle.printing.specs.Promises.{Appended};
-ghost use Rattle.explaining.specs.Words.{flawWords, nameAt, columnsText, fieldText, reasonText};
+ghost use Rattle.wording.specs.Words.{flawWords, nameAt};
+ghost use Rattle.reasons.specs.Reasons.{columnsText, fieldText, reasonText};
 
-// The name of field number k, and spaces behind it.
-fn name_of(k: u8) -> [u8; 10]
-    requires { ⌜ 1 ≤ k ⌝ }
-    ensures { λ r. ⌜ (trimmed r ≡ nameAt k) × (length r ≡ 10) ⌝ }
+// Puts in a text without the spaces behind it, and answers where it ends.
+fn put_trimmed(out: &mut [u8], start: usize, text: &[u8]) -> usize
+    requires { ⌜ start + length (now text) ≤ length (now out) ⌝ }
+    ensures { λ r. ⌜ Appended (now (out .entry)) start (trimmed (now (text .entry))) (now (out .exit)) r ⌝ }
+    ensures { λ r. ⌜ r ≤ start + length (now (text .entry)) ⌝ }
 {
-    match k {
-        1 => *b"1A        ",
-        2 => *b"unit of 1A",
-        3 => *b"1Z        ",
-        4 => *b"6A        ",
-        5 => *b"6B        ",
-        6 => *b"6Z        ",
-        7 => *b"10Z       ",
-        8 => *b"2C        ",
-        9 => *b"4A        ",
-        10 => *b"4B        ",
-        11 => *b"4C        ",
-        12 => *b"4D        ",
-        13 => *b"4Z        ",
-        14 => *b"7A        ",
-        15 => *b"8B1       ",
-        16 => *b"8B2       ",
-        17 => *b"9A        ",
-        18 => *b"9B        ",
-        19 => *b"9D        ",
-        20 => *b"9G        ",
-        21 => *b"9Y        ",
-        22 => *b"9XH       ",
-        23 => *b"9XV       ",
-        24 => *b"1Y        ",
-        25 => *b"unit of 1Y",
-        26 => *b"13Z       ",
-        27 => *b"13Y       ",
-        28 => *b"2W        ",
-        29 => *b"2Z        ",
-        30 => *b"13X       ",
-        _ => [b' '; 10],
-    }
+    let n = trimmed_length(text);
+    put_text(out, start, &text[..n])
 }
 
 // Puts in the name of field number k, and answers where it ends.
 fn put_name(out: &mut [u8], start: usize, k: u8) -> usize
-    requires { ⌜ (1 ≤ k) × (start + 10 ≤ length (now out)) ⌝ }
+    requires { ⌜ start + 10 ≤ length (now out) ⌝ }
     ensures { λ r. ⌜ Appended (now (out .entry)) start (nameAt k) (now (out .exit)) r ⌝ }
     ensures { λ r. ⌜ r ≤ start + 10 ⌝ }
 {
-    let name = name_of(k);
-    let n = trimmed_length(&name);
-    put_text(out, start, &name[..n])
+    let name = field_name(k as usize);
+    put_trimmed(out, start, &name)
 }
 
 // Puts in a field's columns, and answers where it ends.
@@ -111,17 +83,12 @@ fn put_flaw(out: &mut [u8], start: usize, flaw: Flaw) -> usize
     ensures { λ r. ⌜ Appended (now (out .entry)) start (flawWords flaw) (now (out .exit)) r ⌝ }
     ensures { λ r. ⌜ r ≤ start + 18 ⌝ }
 {
-    match flaw {
-        Flaw::None => start,
-        Flaw::Byte => put_text(out, start, b" byte not admitted"),
-        Flaw::Range => put_text(out, start, b" out of range"),
-        Flaw::Shape => put_text(out, start, b" cannot be read"),
-        Flaw::Between => put_text(out, start, b" between fields"),
-    }
+    let words = flaw_words(flaw);
+    put_trimmed(out, start, &words)
 }
 
 // Puts in what is wrong with a record by one of its codes, and answers where it ends.
-pub(crate) fn put_reason(out: &mut [u8], start: usize, rec: &[u8], code: u8) -> usize
+pub fn put_reason(out: &mut [u8], start: usize, rec: &[u8], code: u8) -> usize
     requires { ⌜ (length (now rec) ≡ 219) × (start + 98 ≤ length (now out)) ⌝ }
     ensures { λ r. ⌜ Appended (now (out .entry)) start (reasonText (now (rec .entry)) code) (now (out .exit)) r ⌝ }
     ensures { λ r. ⌜ r ≤ start + 98 ⌝ }

@@ -1,11 +1,11 @@
--- `explaining::reasons::put_quoted` meets its contract: the bytes between two quotation marks.
+-- `reasons::put_quoted` meets its contract: the bytes between two quotation marks.
 use denote.Ref.{now}
 use Rattle.printing.proofs.AppendLaws.{then}
-use Rattle.explaining.proofs.ReasonLaws.{part-is, part-length}
+use Rattle.reasons.proofs.ReasonLaws.{part-is, part-length}
 use native.Mathlib.Omega.{arith}
 use borrow.Author.Needs.{needs}
-use Rattle.explaining.proofs.reasons.put_quoted.Statement.{statement}
-use Rattle.explaining.proofs.reasons.put_quoted.Tie as tie
+use Rattle.reasons.proofs.put_quoted.Statement.{statement}
+use Rattle.reasons.proofs.put_quoted.Tie as tie
 
 add-to : tie.Need-add-to
 add-to c = search needs

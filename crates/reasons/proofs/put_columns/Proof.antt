@@ -1,11 +1,11 @@
--- `explaining::reasons::put_columns` meets its contract: one column, or the first and the last.
+-- `reasons::put_columns` meets its contract: one column, or the first and the last.
 use native.Mathlib.Omega.{arith}
 use borrow.Author.Tests.{eq-eqb, ne-eqb}
 use Rattle.printing.proofs.AppendLaws.{then}
-use Rattle.explaining.specs.Words.{columnsText}
+use Rattle.reasons.specs.Reasons.{columnsText}
 use borrow.Author.Needs.{needs}
-use Rattle.explaining.proofs.reasons.put_columns.Statement.{statement}
-use Rattle.explaining.proofs.reasons.put_columns.Tie as tie
+use Rattle.reasons.proofs.put_columns.Statement.{statement}
+use Rattle.reasons.proofs.put_columns.Tie as tie
 
 slice-aggregate-put-labelled : tie.Need-slice-aggregate-put-labelled
 slice-aggregate-put-labelled c = search needs

@@ -1,4 +1,4 @@
--- What is wrong with a record, from what was put in: the name of a field, its place, and what is said of a code.
+-- What is wrong with a record, from what was put in: a field's place, and what is said of a code.
 use mathlib.Core.Path.{_≡_, refl, sym, ap, _∙_}
 use mathlib.Core.Bool.{Bool, true, false, cond, _&&_, _||_, or-true}
 use mathlib.Core.List.{List, [], _∷_, _++_}
@@ -6,30 +6,17 @@ use Prim.Native.Nat.{ℕ, zero, suc, _+_, _-_, _≤_, _<_}
 use native.Mathlib.Omega.{arith}
 use native.Mathlib.Nat.{add-sub-cancel-left}
 use lib.Dec.{leb, ltb}
-use lib.ListN.{length, getD, take, drop, length-drop, List·getD-eq-default}
+use lib.ListN.{length, getD, take, drop, length-drop}
 use lib.Seq.{length-take-le}
 use borrow.Author.Tests.{leb-true, ne-eqb, lt-ltb, le-ltb}
-use Rattle.columns.specs.Texts.{bytes}
 use Rattle.columns.proofs.TextLaws.{and-split}
 use Rattle.basics.specs.Fields.{placeOf}
 use Rattle.basics.specs.declared.Place.{Place}
-use Rattle.fields.specs.Kinds.{remarks}
-use Rattle.fields.specs.Rows.{Row, field}
 use Rattle.fields.specs.Table.{stationTable}
 use Rattle.station.specs.Places.{stationPlaces}
 use Rattle.station_flaws.specs.Calls.{recordFlaw}
-use Rattle.explaining.specs.Words.{flawWords, nameAt, fieldText, reasonText}
-
--- A number whose field is known has that field's name,
-pub named : (k n : ℕ) (t : List ℕ) → k ≡ n → t ≡ nameAt n → t ≡ nameAt k
-named k n t e q = q ∙ ap nameAt (sym e)
-
--- and one behind the last field has none.
-pub no-name : (k : ℕ) → 31 ≤ k → [] ≡ nameAt k
-unfolding nameAt
-no-name k h =
-    let behind : 30 ≤ k - 1 = omega arith in
-    sym (ap (λ (r : Row). bytes (r .name)) (List·getD-eq-default stationTable (field "" 0 0 remarks) behind))
+use Rattle.wording.specs.Words.{flawWords}
+use Rattle.reasons.specs.Reasons.{fieldText, reasonText}
 
 -- The places lie within the record, and none is wider than 50 columns: one computed test.
 abbrev fine : ℕ × ℕ → Bool

@@ -1,12 +1,12 @@
--- `explaining::reasons::put_reason` meets its contract: a field, where the code names one, and the flaw.
+-- `reasons::put_reason` meets its contract: a field, where the code names one, and the flaw.
 use native.Mathlib.Omega.{arith}
 use mathlib.Core.Path.{_≡_}
 use denote.Ref.{now}
 use Rattle.printing.proofs.AppendLaws.{then}
-use Rattle.explaining.proofs.ReasonLaws.{reason-none, reason-above, reason-field}
+use Rattle.reasons.proofs.ReasonLaws.{reason-none, reason-above, reason-field}
 use borrow.Author.Needs.{needs}
-use Rattle.explaining.proofs.reasons.put_reason.Statement.{statement}
-use Rattle.explaining.proofs.reasons.put_reason.Tie as tie
+use Rattle.reasons.proofs.put_reason.Statement.{statement}
+use Rattle.reasons.proofs.put_reason.Tie as tie
 
 record-flaw-requires : tie.Need-record-flaw-requires
 record-flaw-requires c κs = search needs

@@ -1,12 +1,12 @@
--- `explaining::reasons::put_field` meets its contract: name, columns and bytes, one behind the other.
+-- `reasons::put_field` meets its contract: name, columns and bytes, one behind the other.
 use denote.Ref.{now}
 use Rattle.printing.proofs.AppendLaws.{then}
-use Rattle.explaining.proofs.ReasonLaws.{place-fine}
-use Rattle.explaining.specs.Words.{fieldText}
+use Rattle.reasons.proofs.ReasonLaws.{place-fine}
+use Rattle.reasons.specs.Reasons.{fieldText}
 use native.Mathlib.Omega.{arith}
 use borrow.Author.Needs.{needs}
-use Rattle.explaining.proofs.reasons.put_field.Statement.{statement}
-use Rattle.explaining.proofs.reasons.put_field.Tie as tie
+use Rattle.reasons.proofs.put_field.Statement.{statement}
+use Rattle.reasons.proofs.put_field.Tie as tie
 
 station-place-requires : tie.Need-station-place-requires
 station-place-requires c κs = search needs
