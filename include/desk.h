@@ -242,7 +242,7 @@ uint8_t desk_list_in(const uint8_t *line, size_t line_length,
                      uint8_t *record, size_t record_length, uint8_t *code);
 
 /*
- * Why a line is refused with 10 or 11. Both calls take any bytes and change none.
+ * Why a line is refused with 10, 11 or 9. These calls take any bytes and change none.
  */
 
 /*
@@ -261,6 +261,13 @@ uint8_t desk_line_marks(const uint8_t *line, size_t line_length,
  */
 uint8_t desk_long_field(const uint8_t *line, size_t line_length,
                         size_t *number, size_t *length, size_t *most);
+
+/*
+ * How reading a line ends, and with 9 what is wrong with the field of the code: `code` is that of the first broken rule, 1 to 39, and `kind`
+ * is numbered as `desk_station_kind` does it; both are 0 with every other answer.
+ * Refusals: 10, 11, 9.
+ */
+uint8_t desk_line_kind(const uint8_t *line, size_t line_length, uint8_t *code, uint8_t *kind);
 
 /*
  * Carriage repeaters: a mobile station named by the UIC number of its vehicle.

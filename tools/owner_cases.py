@@ -72,6 +72,8 @@ def cases():
     # The rows of the table, one by one.
     yield "a_line_lost_in_a_pipe", 1, "list_in bad.csv | filing my - | desk", {"my": SEVEN, "bad.csv": bad}, {}
     yield "a_refused_line", 1, "file_list --yes my bad.csv new", {"my": SEVEN, "bad.csv": bad}, {}
+    kinds = b"".join(line for line, _ in (changed(1, _9A="360.0"), changed(2, _2C="30022021"), changed(3, _1A="  938,2    "), changed(4, _8B1="    30"), changed(5, **{"1A unit": " "}), changed(6, _6A="ML")))
+    yield "kinds_of_refused_lines", 1, "file_list --yes --fewer my bad.csv new", {"my": SEVEN, "bad.csv": kinds}, {}
     yield "a_filing_onto_itself_by_the_shell", 1, "filing my records >my", {"my": SEVEN, "records": b"".join(RECORDS[:6])}, {"my": b""}
     yield "a_filing_onto_itself", 0, "filing my records my", {"my": SEVEN, "records": b"".join(RECORDS[:6])}, {"my": filing(RECORDS[:6])}
     fewer = b"".join(LINES[:2] + LINES[4:])

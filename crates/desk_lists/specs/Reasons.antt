@@ -4,6 +4,10 @@ use mathlib.Core.Path.{_≡_}
 use mathlib.Core.Bool.{cond}
 use mathlib.Core.List.{List}
 use lib.Dec.{eqb}
+use Rattle.answers.specs.Endings.{Answered}
+use Rattle.flaws.specs.Flaws.{flawNumber}
+use Rattle.lists.specs.Calls.{lineOutcome}
+use Rattle.line_flaws.specs.Calls.{flawOfLine}
 use Rattle.faults.specs.Faults.{marksOf, hasMarks, longField}
 
 -- `desk_line_marks` of a line: 10 where its marks are not those of a line.
@@ -15,3 +19,7 @@ MarksTold t answer semicolons feeds ended =
 abbrev pub LongFieldTold : List ℕ → ℕ → ℕ → ℕ → ℕ → Type 0
 LongFieldTold t answer number length most =
     (answer ≡ cond (eqb (longField t .number) 0) 0 11) × (number ≡ longField t .number) × (length ≡ longField t .length) × (most ≡ longField t .most)
+
+-- `desk_line_kind` of a line: how reading it ends, and the number of the flaw that comes with the code.
+abbrev pub LineKindTold : List ℕ → ℕ → ℕ → ℕ → Type 0
+LineKindTold t answer code kind = Answered (lineOutcome t) answer code × (kind ≡ flawNumber (flawOfLine t))

@@ -1,10 +1,13 @@
-// The calls on a line that is refused: its marks, and its first field that is too long.
+// The calls on a line that is refused: its marks, its first field that is too long, and the kind of what is wrong with its field.
+use answers::answer;
 use faults::fields::long_field;
 use faults::marking::has_marks;
 use faults::marking::line_marks;
+use flaws::flaw_number;
+use line_flaws::explain_line;
 ghost use mathlib.Core.Path.{_≡_};
 ghost use mathlib.Core.Bool.{cond};
-ghost use Rattle.desk_lists.specs.Reasons.{MarksTold, LongFieldTold};
+ghost use Rattle.desk_lists.specs.Reasons.{MarksTold, LongFieldTold, LineKindTold};
 
 // A test as a number.
 fn as_number(test: bool) -> u8
@@ -54,4 +57,16 @@ pub extern "C" fn desk_long_field(
         return 0;
     }
     11
+}
+
+// How reading a line ends: 10, 11, 9 with its code, or 0; and the kind of what is wrong with the field of that code, 0 where no rule is broken.
+#[no_mangle]
+pub extern "C" fn desk_line_kind(line: &[u8], code: &mut u8, kind: &mut u8) -> u8
+    ensures { λ r. ⌜ LineKindTold (now (line .entry)) r (now (code .exit)) (now (kind .exit)) ⌝ }
+{
+    let told = explain_line(line);
+    let outcome = told.outcome;
+    let flaw = told.flaw;
+    *kind = flaw_number(flaw);
+    answer(outcome, code)
 }

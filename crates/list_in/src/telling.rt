@@ -2,26 +2,10 @@
 use columns::texts::trimmed_length;
 use faults::fields::long_field;
 use faults::marking::line_marks;
-use flaws::Flaw;
 use gathering::Gathered;
-use semicolons::filling::put_fields;
-use station_flaws::explain_station;
-
-// The paper's names of the thirty fields, in column order, each in ten places.
-const NAMES: [u8; 300] =
-    *b"1A        unit of 1A1Z        6A        6B        6Z        10Z       2C        4A        4B        4C        4D        4Z        7A        8B1       8B2       9A        9B        9D        9G        9Y        9XH       9XV       1Y        unit of 1Y13Z       13Y       2W        2Z        13X       ";
-
-// The name of a field among names of ten places each; none where there is no such field.
-fn name_among(names: &[u8], number: usize) -> &[u8] {
-    if number == 0 {
-        return &names[..0];
-    }
-    if names.len() / 10 < number {
-        return &names[..0];
-    }
-    let end = 10 * number;
-    &names[end - 10..end]
-}
+use line_flaws::explain_line;
+use wording::field_name;
+use wording::flaw_words;
 
 // The bytes of a line that are held.
 fn held_part(line: &[u8], held: usize) -> &[u8] {
@@ -64,11 +48,10 @@ fn tell_marks(line: &[u8; 250], gathered: Gathered) {
     io::write_all(2, b" line feed no");
 }
 
-// Says a name without the spaces behind it.
-fn tell_name(name: &[u8]) {
-    let n = trimmed_length(name);
-    io::write_all(2, b" ");
-    io::write_all(2, &name[..n]);
+// Says a text without the spaces behind it.
+fn tell_trimmed(text: &[u8]) {
+    let n = trimmed_length(text);
+    io::write_all(2, &text[..n]);
 }
 
 // Whether a line is held to its end: it is shorter than the buffer, or ends with it.
@@ -85,37 +68,19 @@ fn tell_field(line: &[u8; 250], held: usize) {
     let number = field.number;
     io::write_all(2, b" field ");
     io::print_decimal(2, number as u64);
-    tell_name(name_among(&NAMES, number));
+    io::write_all(2, b" ");
+    let name = field_name(number);
+    tell_trimmed(&name);
     tell_count(b" length ", field.length, held_whole(line, held));
     tell_count(b" most ", field.most, true);
 }
 
-// Says what is wrong with the field that a code names.
-fn tell_flaw(flaw: Flaw) {
-    match flaw {
-        Flaw::None => {}
-        Flaw::Byte => {
-            io::write_all(2, b" byte not admitted");
-        }
-        Flaw::Range => {
-            io::write_all(2, b" out of range");
-        }
-        Flaw::Shape => {
-            io::write_all(2, b" cannot be read");
-        }
-        Flaw::Between => {
-            io::write_all(2, b" between fields");
-        }
-    }
-}
-
-// Says what is wrong with the record that a line stands for.
+// Says what is wrong with the field that the code of a line names.
 fn tell_kind(line: &[u8; 250], held: usize) {
-    let mut rec = [b' '; 219];
-    put_fields(held_part(line, held), &mut rec);
-    let told = explain_station(&rec);
+    let told = explain_line(held_part(line, held));
     let flaw = told.flaw;
-    tell_flaw(flaw);
+    let words = flaw_words(flaw);
+    tell_trimmed(&words);
 }
 
 // Says why a line is refused with 9, 10 or 11.

@@ -262,7 +262,7 @@ pub enum Kind {
 /// assert_eq!(desk::station_kind(&[]), Err(desk::Refusal::RecordLength));
 /// ```
 pub fn station_kind(record: &[u8]) -> Result<Option<(u8, Kind)>, Refusal> {
-    told(raw::station_kind(record))
+    kind_with(raw::station_kind(record))
 }
 
 /// The same from the second judge, which walks the table: it gives the answer of `station_kind` on every record.
@@ -274,11 +274,11 @@ pub fn station_kind(record: &[u8]) -> Result<Option<(u8, Kind)>, Refusal> {
 /// assert_eq!(desk::station_second(&station), desk::station_kind(&station));
 /// ```
 pub fn station_second(record: &[u8]) -> Result<Option<(u8, Kind)>, Refusal> {
-    told(raw::station_second(record))
+    kind_with(raw::station_second(record))
 }
 
-/// A refusal, a code and the number of its kind, in words.
-fn told((refusal, code, kind): (u8, u8, u8)) -> Result<Option<(u8, Kind)>, Refusal> {
+/// The code and the kind that come with refusal 9; none where there is no refusal.
+fn kind_with((refusal, code, kind): (u8, u8, u8)) -> Result<Option<(u8, Kind)>, Refusal> {
     let kind = match kind {
         0 => return answer(refusal, code, None),
         1 => Kind::Byte,
@@ -490,6 +490,23 @@ pub struct LongField {
 pub fn long_field(line: &[u8]) -> Option<LongField> {
     let (_, number, length, most) = raw::long_field(line);
     (number > 0).then_some(LongField { number, length, most })
+}
+
+/// The kind of the first rule that the station of a line breaks, and none where it breaks no rule.
+/// Refusals: 10, 11.
+///
+/// ```
+/// # let station = include_bytes!(concat!(env!("CARGO_MANIFEST_DIR"), "/station-s.txt"));
+/// # let mut line = [0; desk::MAX_LINE_LENGTH];
+/// let length = desk::list_out(station, &mut line)?;
+/// assert_eq!(desk::line_kind(&line[..length]), Ok(None));
+/// assert_eq!(desk::line_kind(&[b"x", &line[..length]].concat()), Err(desk::Refusal::FieldTooLong));
+/// line[0] = b'x';
+/// assert_eq!(desk::line_kind(&line[..length]), Ok(Some((1, desk::Kind::Byte))));
+/// # Ok::<(), desk::Refusal>(())
+/// ```
+pub fn line_kind(line: &[u8]) -> Result<Option<(u8, Kind)>, Refusal> {
+    kind_with(raw::line_kind(line))
 }
 
 /// Writes the station of a carriage into `record` in the one spelling: the station of `defaults`

@@ -147,6 +147,7 @@ extern "C" {
         feeds: *mut usize,
         ended: *mut u8,
     ) -> u8;
+    fn desk_line_kind(line: *const u8, line_length: usize, code: *mut u8, kind: *mut u8) -> u8;
     fn desk_long_field(
         line: *const u8,
         line_length: usize,
@@ -347,6 +348,14 @@ pub fn line_marks(line: &[u8]) -> (u8, usize, usize, u8) {
         desk_line_marks(line.as_ptr(), line.len(), &mut semicolons, &mut feeds, &mut ended)
     };
     (refusal, semicolons, feeds, ended)
+}
+
+/// `desk_line_kind`: the refusal, the code and the number of its kind.
+pub fn line_kind(line: &[u8]) -> (u8, u8, u8) {
+    let (mut code, mut kind) = (NO_CODE, NO_CODE);
+    // SAFETY: the pointer is good for the length of its slice; the answers are places of our own.
+    let refusal = unsafe { desk_line_kind(line.as_ptr(), line.len(), &mut code, &mut kind) };
+    (refusal, code, kind)
 }
 
 /// `desk_long_field`: the refusal, the field's number, its bytes and its columns.

@@ -114,11 +114,15 @@ impl Comparison {
         agree("line_marks", marks, oracle::line_marks(line), &[line]);
         let field = raw::long_field(lent.part());
         agree("long_field", field, oracle::long_field(line), &[line]);
-        untouched("long_field", &lent, line);
+        let kind = raw::line_kind(lent.part());
+        agree("line_kind", kind, oracle::line_kind(line), &[line]);
+        untouched("line_kind", &lent, line);
         agree("list_in and line_marks", refusal == 10, marks.0 == 10, &[line]);
         agree("list_in and long_field", refusal == 11, marks.0 == 0 && field.0 == 11, &[line]);
         self.tally.refusal("line_marks", marks.0);
+        agree("list_in and line_kind", refusal, kind.0, &[line]);
         self.tally.refusal("long_field", field.0);
+        self.tally.line_kind(kind);
     }
 
     /// Compares filing a carriage into a buffer that holds `to`; answers what the library left.

@@ -64,14 +64,19 @@ pub fn station_code(record: &[u8]) -> (u8, u8) {
 /// `desk_station_kind`.
 pub fn station_kind(record: &[u8]) -> (u8, u8, u8) {
     let (refusal, code) = station_code(record);
-    let kind = match record.try_into().map(peer::station_kind) {
-        Ok((_, Some(Kind::Byte))) => 1,
-        Ok((_, Some(Kind::Range))) => 2,
-        Ok((_, Some(Kind::Shape))) => 3,
-        Ok((_, Some(Kind::Between))) => 4,
-        Ok((_, None)) | Err(_) => 0,
-    };
+    let kind = record.try_into().map_or(0, |record| kind_number(peer::station_kind(record).1));
     (refusal, code, kind)
+}
+
+/// The number of a kind, 0 of none.
+fn kind_number(kind: Option<Kind>) -> u8 {
+    match kind {
+        None => 0,
+        Some(Kind::Byte) => 1,
+        Some(Kind::Range) => 2,
+        Some(Kind::Shape) => 3,
+        Some(Kind::Between) => 4,
+    }
 }
 
 /// `desk_header_code`.
@@ -140,6 +145,14 @@ pub fn line_marks(line: &[u8]) -> (u8, usize, usize, u8) {
 pub fn long_field(line: &[u8]) -> (u8, usize, usize, usize) {
     peer::lists::long_field(line)
         .map_or((0, 0, 0, 0), |(number, length, most)| (11, number, length, most))
+}
+
+/// `desk_line_kind`.
+pub fn line_kind(line: &[u8]) -> (u8, u8, u8) {
+    let (refusal, code) = numbers(&peer::lists::read_line(line));
+    let kind =
+        peer::lists::record_in(line).map_or(0, |record| kind_number(peer::station_kind(&record).1));
+    (refusal, code, kind)
 }
 
 /// `desk_carriage`.

@@ -26,6 +26,7 @@ const REFUSALS: &[(&str, &[u8])] = &[
     ("list_in", &[0, 7, 9, 10, 11]),
     ("line_marks", &[0, 10]),
     ("long_field", &[0, 11]),
+    ("line_kind", &[0, 9, 10, 11]),
     ("carriage", &[0, 6, 7, 9, 10, 11, 14, 15, 16]),
     ("carriage_number", &[0, 12]), // how many digits; it has no refusal
 ];
@@ -49,6 +50,7 @@ pub struct Tally {
     refusals: BTreeMap<(&'static str, u8), u64>,
     station_codes: BTreeMap<u8, u64>,
     kinds: BTreeMap<(u8, u8), u64>,
+    line_kinds: BTreeMap<u8, u64>,
     header_codes: BTreeMap<u8, u64>,
     list_out_codes: BTreeMap<u8, u64>,
     list_in_codes: BTreeMap<u8, u64>,
@@ -91,6 +93,13 @@ impl Tally {
         if refusal == 0 || refusal == 9 {
             *self.kinds.entry((code, kind)).or_default() += 1;
         }
+    }
+
+    /// Counts the kind of a line's code.
+    pub fn line_kind(&mut self, (refusal, code, kind): (u8, u8, u8)) {
+        self.refusal("line_kind", refusal);
+        assert_eq!(refusal == 9, code > 0 && kind > 0, "a line's code {code} and kind {kind}");
+        *self.line_kinds.entry(kind).or_default() += 1;
     }
 
     /// Counts the codes, twins and clashes of a judged sheet.
@@ -145,6 +154,7 @@ impl Tally {
         assert_met("header_code", &self.header_codes, 14);
         assert_met("list_out", &self.list_out_codes, 39);
         assert_met("list_in", &self.list_in_codes, 39);
+        assert_met("line_kind", &self.line_kinds, 4);
         assert_met("row", &self.row_codes, 39);
         assert_met("sheet's header", &self.sheet_header_codes, 15);
         assert!(self.twins > 0, "no twin was met");
@@ -206,6 +216,7 @@ impl fmt::Display for Tally {
         write_codes(f, "header codes", &self.header_codes)?;
         write_codes(f, "codes, list_out", &self.list_out_codes)?;
         write_codes(f, "codes, list_in", &self.list_in_codes)?;
+        write_codes(f, "kinds, lines", &self.line_kinds)?;
         write_codes(f, "codes in rows", &self.row_codes)?;
         write_codes(f, "codes in trailers", &self.sheet_header_codes)?;
         let [accepted, refused, stopped] = self.days;

@@ -20,7 +20,7 @@ use crate::rules;
 use crate::saving::save;
 use crate::sheets;
 use crate::status::{Outcome, Trouble};
-use crate::words::explain;
+use crate::words::{explain, kind_words};
 
 /// A program: its name, its options, the tool whose first lines say how it is used, and what it
 /// does.
@@ -234,6 +234,11 @@ pub fn told(number: usize, line: &[u8], refusal: Refusal) -> String {
             if let Some(LongField { number, length, most }) = desk::long_field(line) {
                 let name = rules::station_name(number);
                 text += &format!(" field {number} {name} length {length} most {most}");
+            }
+        }
+        Refusal::RuleBroken { .. } => {
+            if let Ok(Some((_, kind))) = desk::line_kind(line) {
+                text += &format!(" {}", kind_words(kind));
             }
         }
         _ => (),

@@ -3,7 +3,7 @@
 //! The first words are the library's answers: the field that is too long, the marks that are
 //! missing, the rule that is broken. What follows is only what the line's own bytes show.
 
-use desk::Refusal;
+use desk::{Kind, Refusal};
 
 use crate::cleaning::{is_empty, is_separated_by, is_separator_line, is_titles, BYTE_ORDER_MARK};
 use crate::filings::quoted;
@@ -26,6 +26,16 @@ pub fn explain(number: usize, line: &[u8], refusal: Refusal) -> Vec<String> {
     }
     seen(number, line, refusal, &mut words);
     words
+}
+
+/// What is wrong with the field of a broken rule, in the words of `explain` and `list_in`.
+pub fn kind_words(kind: Kind) -> &'static str {
+    match kind {
+        Kind::Byte => "byte not admitted",
+        Kind::Range => "out of range",
+        Kind::Shape => "cannot be read",
+        Kind::Between => "between fields",
+    }
 }
 
 /// The field that a refusal is about: the one that is too long, or the one whose rule is broken.

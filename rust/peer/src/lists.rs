@@ -35,12 +35,17 @@ pub fn write_line(station: &Station, line: &mut [u8]) -> Result<usize, Refusal> 
 
 /// Reads a station that breaks no rule from a line, its fields in any accepted spelling.
 pub fn read_line(line: &[u8]) -> Result<Station, Refusal> {
+    Station::read(&record_in(line)?)
+}
+
+/// The record that the fields of a line make, each padded to its columns.
+pub fn record_in(line: &[u8]) -> Result<Record, Refusal> {
     let fields: [&[u8]; STATION_FIELDS.len()] = fields_in(line)?;
     let mut record = [b' '; RECORD_LENGTH];
     for (index, field) in fields.iter().enumerate() {
         put_field(&mut record, index + 1, field)?;
     }
-    Station::read(&record)
+    Ok(record)
 }
 
 /// The fields of a line that has so many, and one line feed as its last byte.
