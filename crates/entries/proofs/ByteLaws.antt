@@ -10,7 +10,7 @@ use borrow.Author.Tests.{ne-eqb}
 use Rattle.columns.specs.Sets.{among}
 use Rattle.columns.specs.Texts.{bytes, every, each, byteGood}
 use Rattle.flaws.specs.Flaws.{letterOf}
-use Rattle.flaws.specs.Parts.{plain, flawIn}
+use Rattle.flaw_parts.specs.Parts.{plain, flawIn}
 use Rattle.flaws.specs.declared.Flaw.the-variants as flaw
 use Rattle.flaws.proofs.SetsAlike.{among-letters, every-alike}
 use Rattle.entries.specs.Entries.{oneByte, oneOfSet}

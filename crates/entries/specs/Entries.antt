@@ -8,7 +8,7 @@ use Rattle.columns.specs.Sets.{among}
 use Rattle.columns.specs.Texts.{blank, byteGood}
 use Rattle.formats.specs.declared.Format.the-variants as format
 use Rattle.flaws.specs.Flaws.{letterOf}
-use Rattle.flaws.specs.Parts.{plain, flawIn, flawAt}
+use Rattle.flaw_parts.specs.Parts.{plain, flawIn, flawAt}
 use Rattle.flaws.specs.declared.Flaw.{Flaw}
 use Rattle.flaws.specs.declared.Flaw.the-variants as flaw
 use Rattle.spans.specs.Numbers.{decimalEntry, heightEntry, wholeEntry}

@@ -14,7 +14,7 @@ use Rattle.basics.specs.Fields.{at}
 use Rattle.fields.specs.Kinds.{Kind, amount, unit, byte, choice, text, dropped, remarks, date, dateOrBlank, tenths, kilometres, metres, metresOrBlank, position, whole, wholeOrBlank}
 use Rattle.fields.specs.Rows.{Row}
 use Rattle.flaws.specs.Flaws.{flawless, ranged}
-use Rattle.flaws.specs.Parts.{parts, flawIn, flawsFrom}
+use Rattle.flaw_parts.specs.Parts.{parts, flawIn, flawsFrom}
 use Rattle.flaws.specs.declared.Flaw.{Flaw}
 use Rattle.flaws.specs.declared.Flaw.the-variants as flaw
 use Rattle.entries.specs.Entries.{unitEntry}

@@ -10,7 +10,7 @@ use Rattle.numerals.specs.declared.Signed.the-variants as signed
 use Rattle.formats.specs.Tenths.{inTenths}
 use Rattle.distances.specs.Distances.{inMetres}
 use Rattle.flaws.specs.Flaws.{ranged}
-use Rattle.flaws.specs.Parts.{numberWithin, bounded, flawIn}
+use Rattle.flaw_parts.specs.Parts.{numberWithin, bounded, flawIn}
 use Rattle.flaws.specs.declared.Flaw.{Flaw}
 use Rattle.flaws.specs.declared.Flaw.the-variants as flaw
 use Rattle.spans.specs.Numbers.{wasRead, saidTenths, saidHeight}
@@ -43,11 +43,11 @@ module _ (admits : ℕ → Bool) (reads old new : List ℕ → Bool) (p : List �
 
 -- What was read, by its typed value.
 pub tenths-said : (range : ℤ → Bool) (v : Signed) → ranged (numberWithin range v) ≡ saidTenths range (inTenths v)
-tenths-said range signed.Bad = refl
+tenths-said range (signed.Bad wrong) = refl
 tenths-said range signed.Blank = refl
 tenths-said range (signed.Filled z) = refl
 
 pub height-said : (range : ℤ → Bool) (v : Signed) → ranged (numberWithin range v) ≡ saidHeight range (inMetres v)
-height-said range signed.Bad = refl
+height-said range (signed.Bad wrong) = refl
 height-said range signed.Blank = refl
 height-said range (signed.Filled z) = refl

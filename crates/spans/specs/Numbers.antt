@@ -3,7 +3,7 @@ use Prim.Native.Nat.{ℕ}
 use mathlib.Core.Bool.{Bool, true, false}
 use mathlib.Core.List.{List, []}
 use lib.IntN.{ℤ}
-use Rattle.numerals.specs.Numbers.{wholeOf, amount, signedOf}
+use Rattle.numerals.specs.Numbers.{wholeOf, amount, signedOf, admitsWhole}
 use Rattle.formats.specs.Formats.{maySign, formatOf}
 use Rattle.formats.specs.declared.Format.{Format}
 use Rattle.formats.specs.declared.Tenths.{Tenths}
@@ -11,7 +11,8 @@ use Rattle.formats.specs.declared.Tenths.the-variants as tenths
 use Rattle.distances.specs.declared.Height.{Height}
 use Rattle.distances.specs.declared.Height.the-variants as heights
 use Rattle.flaws.specs.Flaws.{ranged}
-use Rattle.flaws.specs.Parts.{admitsWhole, admitsDecimal, wholeThere, bounded, numbered, flawIn}
+use Rattle.decimals.specs.Decimals.{admitsDecimal}
+use Rattle.flaw_parts.specs.Parts.{wholeThere, bounded, numbered, flawIn}
 use Rattle.flaws.specs.declared.Flaw.{Flaw}
 use Rattle.flaws.specs.declared.Flaw.the-variants as flaw
 use Rattle.spans.specs.Spans.{fromTo, span}

@@ -2,7 +2,7 @@
 use Prim.Native.Nat.{ℕ}
 use mathlib.Core.Path.{_≡_}
 use mathlib.Core.List.{List}
-use Rattle.flaws.specs.Parts.{flawWith}
+use Rattle.flaw_parts.specs.Parts.{flawWith}
 use Rattle.walking.specs.Walks.{flawsBy, codeBy}
 use Rattle.walking.specs.declared.Found.{Found}
 

@@ -2,7 +2,7 @@
 use Prim.Native.Nat.{ℕ}
 use native.Mathlib.Omega.{arith}
 use denote.Ref.{now}
-use Rattle.flaws.proofs.CodeLaws.{past, coded}
+use Rattle.flaw_parts.proofs.CodeLaws.{past, coded}
 use Rattle.entries.specs.Entries.{kindFlaw}
 use borrow.Author.Needs.{needs}
 use Rattle.entries.proofs.kind_flaw.Statement.{statement}

@@ -1,7 +1,7 @@
 -- `entries::middle_kinds` meets its contract, kind by kind.
 use Prim.Native.Nat.{ℕ}
 use denote.Ref.{now}
-use Rattle.flaws.proofs.CodeLaws.{past, coded}
+use Rattle.flaw_parts.proofs.CodeLaws.{past, coded}
 use Rattle.entries.specs.Entries.{kindFlaw}
 use borrow.Author.Needs.{needs}
 use Rattle.entries.proofs.middle_kinds.Statement.{statement}

@@ -5,7 +5,8 @@ use borrow.Author.Tests.{not-true, not-false}
 use Rattle.formats.specs.Tenths.{tenthsOf}
 use Rattle.formats.specs.Formats.{maySign, formatOf}
 use Rattle.fields.specs.Table.{rangeOf}
-use Rattle.flaws.specs.Parts.{numberReads, numberWithin, admitsDecimal}
+use Rattle.decimals.specs.Decimals.{admitsDecimal}
+use Rattle.flaw_parts.specs.Parts.{numberReads, numberWithin}
 use Rattle.spans.specs.Spans.{span}
 use Rattle.spans.specs.Numbers.{decimalEntry}
 use Rattle.spans.proofs.NumberLaws.{not-read, read-anew, tenths-said}

@@ -3,9 +3,9 @@ use mathlib.Core.Path.{_≡_, sym, ap, _∙_}
 use mathlib.Core.Bool.{true}
 use denote.Ref.{now}
 use borrow.Author.Tests.{not-true, not-false}
-use Rattle.numerals.specs.Numbers.{signedOf}
+use Rattle.numerals.specs.Numbers.{signedOf, admitsWhole}
 use Rattle.distances.specs.Distances.{heightRange, heightOf}
-use Rattle.flaws.specs.Parts.{numberReads, numberWithin, admitsWhole}
+use Rattle.flaw_parts.specs.Parts.{numberReads, numberWithin}
 use Rattle.spans.specs.Spans.{span}
 use Rattle.spans.specs.Numbers.{heightEntry}
 use Rattle.spans.proofs.NumberLaws.{not-read, read-anew, height-said}

@@ -3,8 +3,8 @@ use mathlib.Core.Path.{_≡_, sym, ap, _∙_}
 use mathlib.Core.Bool.{true, false}
 use denote.Ref.{now}
 use borrow.Author.Tests.{not-true, not-false}
-use Rattle.numerals.specs.Numbers.{wholeOf, amount}
-use Rattle.flaws.specs.Parts.{wholeThere, admitsWhole}
+use Rattle.numerals.specs.Numbers.{wholeOf, amount, admitsWhole}
+use Rattle.flaw_parts.specs.Parts.{wholeThere}
 use Rattle.spans.specs.Spans.{fromTo}
 use Rattle.spans.specs.Numbers.{wholeEntry}
 use Rattle.spans.proofs.NumberLaws.{not-read, read-anew}

@@ -2,7 +2,7 @@
 use mathlib.Core.Path.{sym, ap, _∙_}
 use native.Mathlib.Omega.{arith}
 use denote.Ref.{now}
-use Rattle.flaws.proofs.CodeLaws.{past}
+use Rattle.flaw_parts.proofs.CodeLaws.{past}
 use Rattle.walking.specs.Facts.{factOf}
 use Rattle.walking.proofs.WalkLaws.{no-fact}
 use borrow.Author.Needs.{needs}
