@@ -15,10 +15,9 @@ use Rattle.basics.specs.Fields.{at}
 use Rattle.fields.specs.Kinds.{Kind, Meaning, meaning}
 use Rattle.fields.specs.Rows.{Row, Values}
 use Rattle.flaws.specs.Flaws.{flawless, ranged}
-use Rattle.flaw_parts.specs.Parts.{Parts, parts, flawIn, flawBy, flawsFrom, keptAsBytes, typedFlawBy, typedFlaws, flawWith}
+use Rattle.flaw_parts.specs.Parts.{Parts, parts, flawIn, flawBy, flawsFrom, keptAsBytes, typedFlawBy, typedFlaws, flawWith, flawlessAll}
 use Rattle.flaws.specs.declared.Flaw.{Flaw}
 use Rattle.flaws.specs.declared.Flaw.the-variants as flaw
-use Rattle.flaw_parts.proofs.SplitLaws.{flawlessAll}
 
 -- One of a field's three flaws.
 abbrev pub ofField : Flaw → Bool

@@ -28,7 +28,7 @@ use Rattle.fields.specs.Kinds.{Kind, amount, unit, byte, choice, text, dropped,
 use Rattle.fields.specs.Rows.{Row, Values, rulesFrom, fitsOf, rowBehind}
 use Rattle.fields.specs.Table.{stationTable}
 use Rattle.flaws.specs.Flaws.{flawless, unread, ranged}
-use Rattle.flaw_parts.specs.Parts.{numberReads, dayReads, numberWithin, dateWithin, dayWithin, arcWithin, positionWithin, Parts, wholeThere, parts, flawIn, flawBy, flawsFrom, keptAsBytes, typedFlawBy, typedFlaws, flawAt}
+use Rattle.flaw_parts.specs.Parts.{numberReads, dayReads, numberWithin, dateWithin, dayWithin, arcWithin, positionWithin, Parts, wholeThere, parts, flawIn, flawBy, flawsFrom, keptAsBytes, typedFlawBy, typedFlaws, flawAt, flawlessAll}
 use Rattle.flaws.specs.declared.Flaw.{Flaw}
 use Rattle.flaws.specs.declared.Flaw.the-variants as flaw
 use Rattle.flaw_parts.proofs.AdmittedLaws.{all-in, allIn, admitted}
@@ -204,11 +204,6 @@ kept k p e w = let r = rowBehind stationTable (k - 1) in sym (none-means (r .kin
 -- and where it is not read that of its bytes.
 pub broken : (k : ℕ) (p : List ℕ) → (partsAt k) .reads p ≡ false → unread ((partsAt k) .admits) p ≡ flawAt k [] p
 broken k p e = unread-flaw (partsAt k) [] p e
-
--- All flaws of some are none.
-abbrev pub flawlessAll : List Flaw → List Bool
-flawlessAll [] = []
-flawlessAll (x ∷ xs) = flawless x ∷ flawlessAll xs
 
 -- So it is in any table of fields,
 pub table-split : (k : ℕ) (t : List Row) (f : List (List ℕ)) → rulesFrom k t f ≡ flawlessAll (flawsFrom k t f)

@@ -23,7 +23,7 @@ use Rattle.serials.specs.Serials.{serialGood}
 use Rattle.fields.specs.Kinds.{TextRule, places, word, leftText, literal, emission, Kind, amount, unit, byte, choice, text, dropped, remarks, date, dateOrBlank, tenths, kilometres, metres, metresOrBlank, position, whole, wholeOrBlank, Meaning, textKeeps, meaning}
 use Rattle.fields.specs.Rows.{Row, Values, rowBehind}
 use Rattle.fields.specs.Table.{stationTable}
-use Rattle.flaws.specs.Flaws.{ranged}
+use Rattle.flaws.specs.Flaws.{flawless, ranged}
 use Rattle.flaws.specs.declared.Flaw.{Flaw}
 use Rattle.flaws.specs.declared.Flaw.the-variants as flaw
 
@@ -173,6 +173,11 @@ typedFlawBy r v =
 abbrev pub typedFlaws : (t : List Row) → Values t → List Flaw
 typedFlaws [] v = []
 typedFlaws (r ∷ rs) v = typedFlawBy r (v .0) ∷ typedFlaws rs (v .1)
+
+-- Which of some fields have no flaw: the rules that a table of fields keeps.
+abbrev pub flawlessAll : List Flaw → List Bool
+flawlessAll [] = []
+flawlessAll (x ∷ xs) = flawless x ∷ flawlessAll xs
 
 -- The flaw that comes with a code: 0 has none, a field's code has its field's, and codes above those lie between fields.
 abbrev pub flawWith : List Flaw → ℕ → Flaw

@@ -12,9 +12,9 @@ use Rattle.basics.specs.Outcomes.{codeWith, firstRefusal}
 use Rattle.basics.specs.declared.Outcome.the-variants as outcome
 use Rattle.basics.proofs.RuleLaws.{all-hold, to-next, from-first}
 use Rattle.fields.specs.Table.{stationTable}
-use Rattle.flaw_parts.specs.Parts.{flawsFrom, flawWith}
+use Rattle.flaw_parts.specs.Parts.{flawsFrom, flawWith, flawlessAll}
 use Rattle.flaws.specs.declared.Flaw.{Flaw}
-use Rattle.flaw_parts.proofs.SplitLaws.{flawlessAll, table-split}
+use Rattle.flaw_parts.proofs.SplitLaws.{table-split}
 use Rattle.station.specs.Places.{fieldsOf}
 use Rattle.station.specs.Rules.{fieldRules}
 use Rattle.station.specs.Between.{betweenRules}

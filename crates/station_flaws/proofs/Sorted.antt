@@ -5,8 +5,8 @@ use mathlib.Core.List.{List, _++_}
 use Prim.Native.Nat.{ℕ}
 use Rattle.basics.specs.Rules.{firstBroken}
 use Rattle.fields.specs.Table.{stationTable}
-use Rattle.flaw_parts.specs.Parts.{flawsFrom, flawWith}
-use Rattle.flaw_parts.proofs.SplitLaws.{flawlessAll, table-split}
+use Rattle.flaw_parts.specs.Parts.{flawsFrom, flawWith, flawlessAll}
+use Rattle.flaw_parts.proofs.SplitLaws.{table-split}
 use Rattle.flaw_parts.proofs.SortedLaws.{Sorted, all-own, sorted}
 use Rattle.station.specs.Places.{fieldsOf}
 use Rattle.station.specs.Rules.{fieldRules}

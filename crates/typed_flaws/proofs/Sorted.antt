@@ -5,8 +5,8 @@ use mathlib.Core.List.{List, _++_}
 use Prim.Native.Nat.{ℕ}
 use Rattle.basics.specs.Rules.{firstBroken}
 use Rattle.fields.specs.Table.{stationTable}
-use Rattle.flaw_parts.specs.Parts.{typedFlaws, flawWith}
-use Rattle.flaw_parts.proofs.SplitLaws.{flawlessAll, typed-table-split}
+use Rattle.flaw_parts.specs.Parts.{typedFlaws, flawWith, flawlessAll}
+use Rattle.flaw_parts.proofs.SplitLaws.{typed-table-split}
 use Rattle.flaw_parts.proofs.SortedLaws.{Sorted, all-typed, sorted}
 use Rattle.station.specs.Members.{valuesOf}
 use Rattle.station.specs.Rules.{typedRules}

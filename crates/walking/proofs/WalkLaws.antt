@@ -11,10 +11,9 @@ use lib.Seq.{drop-cons}
 use borrow.Author.Tests.{eq-eqb, ne-eqb, leb-true, le-leb, lt-leb}
 use Rattle.columns.proofs.TextLaws.{and-split}
 use Rattle.flaws.specs.Flaws.{flawless, ranged}
-use Rattle.flaw_parts.specs.Parts.{flawWith}
+use Rattle.flaw_parts.specs.Parts.{flawWith, flawlessAll}
 use Rattle.flaws.specs.declared.Flaw.{Flaw}
 use Rattle.flaws.specs.declared.Flaw.the-variants as flaw
-use Rattle.flaw_parts.proofs.SplitLaws.{flawlessAll}
 use Rattle.walking.specs.Facts.{facts, factOf}
 use Rattle.walking.specs.Walks.{cell, standsBy, keptBy, firstRow, saidBehind, flawBehind, flawsFor, flawsBy}
 

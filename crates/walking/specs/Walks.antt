@@ -8,7 +8,7 @@ use lib.ListN.{length, getD, take, drop}
 use Rattle.basics.specs.Rules.{firstBroken}
 use Rattle.flaws.specs.Flaws.{flawless, ranged}
 use Rattle.flaws.specs.declared.Flaw.{Flaw}
-use Rattle.flaw_parts.proofs.SplitLaws.{flawlessAll}
+use Rattle.flaw_parts.specs.Parts.{flawlessAll}
 use Rattle.entries.specs.Entries.{entryFlaw}
 use Rattle.walking.specs.Facts.{factOf}
 

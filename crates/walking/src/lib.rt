@@ -13,8 +13,7 @@ ghost use Prim.Native.Nat.{_<_};
 ghost use lib.ListN.{length, getD};
 ghost use Rattle.basics.specs.Rules.{firstBroken};
 ghost use Rattle.flaws.specs.Flaws.{flawless};
-ghost use Rattle.flaw_parts.specs.Parts.{flawWith};
-ghost use Rattle.flaw_parts.proofs.SplitLaws.{flawlessAll};
+ghost use Rattle.flaw_parts.specs.Parts.{flawWith, flawlessAll};
 ghost use Rattle.walking.specs.Walks.{fieldBehind, standsBy, keptBy, firstRow, flawBehind, flawsBy};
 ghost use Rattle.walking.specs.Promises.{Walked};
 

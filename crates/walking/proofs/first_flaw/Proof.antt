@@ -9,7 +9,7 @@ use Rattle.basics.specs.Rules.{firstBroken}
 use Rattle.basics.proofs.RuleLaws.{rule-on, rule-off, rule-end}
 use Rattle.flaws.specs.Flaws.{flawless}
 use Rattle.flaws.specs.declared.Flaw.the-variants as flaw
-use Rattle.flaw_parts.proofs.SplitLaws.{flawlessAll}
+use Rattle.flaw_parts.specs.Parts.{flawlessAll}
 use Rattle.walking.specs.Walks.{flawsBy}
 use Rattle.walking.proofs.WalkLaws.{flaws-many, flaw-at, rules-at, rules-many, with-at}
 use borrow.Author.Needs.{needs}
