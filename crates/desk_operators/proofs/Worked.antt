@@ -7,7 +7,7 @@ use Rattle.frequencies.specs.declared.Frequency.the-variants as frequency
 use Rattle.operator_counts.specs.declared.Hundredths.the-variants as hundredths
 use Rattle.operator_counts.specs.Hundredths.{stepOf, hundredthsOf}
 use Rattle.operator_pages.specs.Pages.{operatorRow}
-use Rattle.operator_lines.specs.Frequencies.{digitsIn, inDigits, shortened, megahertz}
+use Rattle.operator_numbers.specs.Frequencies.{digitsIn, inDigits, shortened, megahertz}
 use Rattle.desk_operators.specs.Rows.{spellHundredths, spellHead, spellRow}
 
 -- 9,999,999,999 GHz steps, 938.2 MHz and one kHz step.

@@ -4,21 +4,21 @@ use mathlib.Core.Bool.{true, false}
 use mathlib.Core.List.{List, [], _∷_, _++_}
 use Prim.Native.Nat.{ℕ, zero, suc, _+_, _-_, _<_}
 use native.Mathlib.Omega.{arith}
-use lib.ListN.{length, getD, replicate, List·getD-append}
+use lib.ListN.{length, getD}
 use Rattle.basics.specs.Outcomes.{refusal, ifDone}
 use Rattle.basics.specs.declared.Outcome.{Outcome}
 use Rattle.basics.proofs.RefusalLaws.{done, if-done, if-refused}
 use Rattle.files.specs.Files.{stations}
 use Rattle.forms.specs.Counting.{rows}
-use Rattle.forms.proofs.RowLaws.{rows-cong}
 use Rattle.printing.specs.Lines.{refusedLine}
 use Rattle.operator_counts.specs.Counts.{operators}
 use Rattle.operator_pages.specs.declared.OperatorRow.{OperatorRow}
 use Rattle.operator_pages.specs.declared.Page.{Page}
 use Rattle.operator_pages.specs.Pages.{pageOf, stationsOn}
-use Rattle.operator_pages.specs.Calls.{pageOutcome, rowsFor, noRow, rowAt, blankRow, filledUp, paged}
+use Rattle.operator_pages.specs.Calls.{pageOutcome, rowsFor, noRow, rowAt}
 use Rattle.operator_pages.specs.Promises.{PageFound}
 use Rattle.operator_pages.proofs.PageLaws.{rows-all}
+use Rattle.operator_pages.proofs.FoundLaws.{answer-is, same-row, same-texts}
 use Rattle.operator_lines.specs.Lines.{operatorLine, operatorsLine, rowLines, operatorsOf, pageLine, pageSum, pageLines}
 
 -- the stations of rows, the first apart
@@ -45,28 +45,10 @@ unfolding sumOf
 page-sum p zero = refl
 page-sum p (suc n) = ap (λ (m : ℕ). m + rowAt p n .tally .stations) (page-sum p n)
 
--- The page p of a file was found, where there is room for so many rows.
+-- The page p of a file was found, where there is room for so many rows: its stations are those of the rows that are given.
 module _ (file : List ℕ) (room : ℕ) (p : Page) (found : PageFound file room p) where
-  -- It has the call's outcome and number of rows,
-  pub answer-is : (p .answer .outcome ≡ pageOutcome file room) × (p .answer .rows ≡ length (rowsFor file room))
-  unfolding paged
-  answer-is = (ap (λ (q : Page). q .answer .outcome) found, ap (λ (q : Page). q .answer .rows) found)
-
-  -- in front the rows that are given,
-  same-row : (i : ℕ) → i < length (rowsFor file room) → rowAt p i ≡ getD (rowsFor file room) i noRow
-  unfolding paged filledUp
-  same-row i l =
-      let given = rowsFor file room in
-      ap (λ (q : Page). rowAt q i) found ∙ List·getD-append given (replicate (operators - length given) blankRow) noRow i l
-
-  -- so that what is written of each of them is what is written of those,
-  pub same-texts : (text : OperatorRow → List ℕ) → rows (λ k. text (rowAt p (k - 1))) (length (rowsFor file room)) ≡ rows (λ k. text (getD (rowsFor file room) (k - 1) noRow)) (length (rowsFor file room))
-  same-texts text =
-      rows-cong (λ k. text (rowAt p (k - 1))) (λ k. text (getD (rowsFor file room) (k - 1) noRow)) (length (rowsFor file room)) (λ i l. let one : suc i - 1 ≡ i = omega arith in rw one (ap text (same-row i l)))
-
-  -- and their stations are theirs.
   same-sum : pageSum p (length (rowsFor file room)) ≡ stationsOn (rowsFor file room)
-  same-sum = page-sum p (length (rowsFor file room)) ∙ sum-all (rowsFor file room) (rowAt p) same-row
+  same-sum = page-sum p (length (rowsFor file room)) ∙ sum-all (rowsFor file room) (rowAt p) (same-row file room p found)
 
 -- There was room for every operator.
 module _ (file : List ℕ) (p : Page) (found : PageFound file operators p) where

@@ -1,3 +1,2 @@
-pub mod Frequencies
 pub mod Lines
 pub mod Promises

@@ -13,7 +13,7 @@ use Rattle.operator_pages.specs.declared.OperatorRow.{OperatorRow}
 use Rattle.operator_pages.specs.declared.Page.{Page}
 use Rattle.operator_pages.specs.Pages.{pageOf, stationsOn}
 use Rattle.operator_pages.specs.Calls.{pageOutcome, noRow, rowAt}
-use Rattle.operator_lines.specs.Frequencies.{inDigits, extremeText}
+use Rattle.operator_numbers.specs.Frequencies.{inDigits, extremeText}
 
 -- A number and the words before it.
 abbrev pub counted : String → ℕ → List ℕ

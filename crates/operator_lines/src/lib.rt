@@ -1,5 +1,4 @@
 // What the program prints of the operators of a file, written into lent bytes.
 
 mod lines;
-pub mod numbers;
 pub mod pages;

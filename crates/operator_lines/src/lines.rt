@@ -1,6 +1,6 @@
 // The lines of the operators, each put into the lent bytes behind what stands there already.
-use crate::numbers::put_digits_of;
-use crate::numbers::put_extreme;
+use operator_numbers::put_digits_of;
+use operator_numbers::put_extreme;
 use operator_pages::OperatorRow;
 use printing::pieces::put_text;
 ghost use mathlib.Core.Path.{_≡_};
@@ -8,7 +8,7 @@ ghost use mathlib.Core.List.{_++_};
 ghost use Prim.Native.Nat.{_+_, _≤_};
 ghost use lib.ListN.{length};
 ghost use Rattle.printing.specs.Promises.{Appended};
-ghost use Rattle.operator_lines.specs.Frequencies.{inDigits};
+ghost use Rattle.operator_numbers.specs.Frequencies.{inDigits};
 ghost use Rattle.operator_lines.specs.Lines.{countsText, operatorLine, operatorsLine};
 
 // Puts in a number and the words before it, and answers where it ends.

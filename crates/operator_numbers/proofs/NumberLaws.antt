@@ -11,8 +11,8 @@ use lib.Dec.{ltb, eqb}
 use lib.ListN.{length}
 use Rattle.numerals.specs.Numbers.{spellWhole}
 use Rattle.numerals.proofs.RoundTrip.{spelled-length}
-use Rattle.operator_lines.specs.declared.numbers.Fraction.{Fraction}
-use Rattle.operator_lines.specs.Frequencies.{digitsIn, shortened}
+use Rattle.operator_numbers.specs.declared.Fraction.{Fraction}
+use Rattle.operator_numbers.specs.Frequencies.{digitsIn, shortened}
 
 -- A number has k + 1 digits at most,
 pub digits-most : (k v : ℕ) → digitsIn k v ≤ suc k

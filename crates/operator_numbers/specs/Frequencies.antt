@@ -7,7 +7,7 @@ use Rattle.columns.specs.Texts.{bytes}
 use Rattle.numerals.specs.Numbers.{spellWhole}
 use Rattle.operator_counts.specs.declared.Hundredths.{Hundredths}
 use Rattle.operator_counts.specs.declared.Hundredths.the-variants as hundredths
-use Rattle.operator_lines.specs.declared.numbers.Fraction.{Fraction}
+use Rattle.operator_numbers.specs.declared.Fraction.{Fraction}
 
 -- How many digits a number has, where they are k + 1 at most.
 unfoldable pub digitsIn : ℕ → ℕ → ℕ

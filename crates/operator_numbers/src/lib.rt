@@ -7,7 +7,7 @@ ghost use Prim.Native.Nat.{_+_, _≤_};
 ghost use lib.ListN.{length};
 ghost use Rattle.numerals.specs.Numbers.{spellWhole};
 ghost use Rattle.printing.specs.Promises.{Appended};
-ghost use Rattle.operator_lines.specs.Frequencies.{digitsIn, inDigits, shortened, megahertz, extremeText};
+ghost use Rattle.operator_numbers.specs.Frequencies.{digitsIn, inDigits, shortened, megahertz, extremeText};
 
 // The digits of a fraction, and how many there are.
 struct Fraction {
@@ -43,7 +43,7 @@ fn digits_in(v: u64) -> usize
 }
 
 // Puts in a number in plain decimal, and answers where it ends.
-pub(crate) fn put_digits_of(out: &mut [u8], start: usize, v: u64) -> usize
+pub fn put_digits_of(out: &mut [u8], start: usize, v: u64) -> usize
     requires { ⌜ start + 20 ≤ length (now out) ⌝ }
     ensures { λ r. ⌜ Appended (now (out .entry)) start (inDigits v) (now (out .exit)) r ⌝ }
     ensures { λ r. ⌜ r ≤ start + 20 ⌝ }
@@ -83,7 +83,7 @@ fn put_megahertz(out: &mut [u8], start: usize, v: u64) -> usize
 }
 
 // Puts in the words before a frequency, the frequency in hundredths of a hertz and in megahertz; nothing where there is none. Answers where that ends.
-pub(crate) fn put_extreme(out: &mut [u8], start: usize, label: &[u8], a: Hundredths) -> usize
+pub fn put_extreme(out: &mut [u8], start: usize, label: &[u8], a: Hundredths) -> usize
     requires { ⌜ start + (length (now label) + 54) ≤ length (now out) ⌝ }
     ensures { λ r. ⌜ Appended (now (out .entry)) start (extremeText (now (label .entry)) a) (now (out .exit)) r ⌝ }
     ensures { λ r. ⌜ r ≤ start + (length (now (label .entry)) + 54) ⌝ }

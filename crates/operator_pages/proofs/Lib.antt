@@ -3,3 +3,4 @@ pub mod PageLaws
 pub mod OrderLaws
 pub mod PageTheorems
 pub mod Unique
+pub mod FoundLaws

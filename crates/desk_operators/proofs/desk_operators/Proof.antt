@@ -9,7 +9,7 @@ use Rattle.forms.specs.Counting.{rows}
 use Rattle.printing.proofs.WriteLaws.{written}
 use Rattle.operator_pages.specs.Calls.{rowsFor, rowAt}
 use Rattle.operator_pages.proofs.PageLaws.{rows-fit}
-use Rattle.operator_lines.proofs.PageLines.{answer-is, same-texts}
+use Rattle.operator_pages.proofs.FoundLaws.{answer-is, same-texts}
 use Rattle.desk_operators.specs.Rows.{spellRow}
 use Rattle.desk_operators.specs.Promises.{roomIn, spelledRows, bytesAfter}
 use native.Mathlib.Omega.{arith}

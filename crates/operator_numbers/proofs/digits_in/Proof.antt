@@ -1,12 +1,12 @@
--- `operator_lines::numbers::digits_in` meets its contract: with the digits that are left, what is left of the number has the others.
+-- `operator_numbers::digits_in` meets its contract: with the digits that are left, what is left of the number has the others.
 use mathlib.Core.Path.{_≡_}
 use Prim.Native.Nat.{_+_, _-_, _≤_}
-use Rattle.operator_lines.specs.Frequencies.{digitsIn}
-use Rattle.operator_lines.proofs.NumberLaws.{digits-small, digits-more, digits-none}
+use Rattle.operator_numbers.specs.Frequencies.{digitsIn}
+use Rattle.operator_numbers.proofs.NumberLaws.{digits-small, digits-more, digits-none}
 use native.Mathlib.Omega.{arith}
 use borrow.Author.Needs.{needs}
-use Rattle.operator_lines.proofs.numbers.digits_in.Statement.{statement}
-use Rattle.operator_lines.proofs.numbers.digits_in.Tie as tie
+use Rattle.operator_numbers.proofs.digits_in.Statement.{statement}
+use Rattle.operator_numbers.proofs.digits_in.Tie as tie
 
 abbrev Inv-loop : tie.InvT-loop
 Inv-loop v rest₀ left₀ rest left = (left ≤ 19) × (digitsIn 19 v ≡ 19 - left + digitsIn left rest)

@@ -1,4 +1,4 @@
--- `operator_lines::numbers::put_columns` meets its contract: the digits written into a part of the lent bytes, put back.
+-- `operator_numbers::put_columns` meets its contract: the digits written into a part of the lent bytes, put back.
 use denote.Ref.{now}
 use mathlib.Core.Path.{_≡_, _∙_}
 use Prim.Native.Nat.{_+_, _-_}
@@ -7,10 +7,10 @@ use lib.ListN.{length}
 use borrow.Rule.Slice.PartMut.{mid-len, midOf}
 use Rattle.numerals.specs.Numbers.{spellWhole}
 use Rattle.printing.proofs.AppendLaws.{put-in}
-use Rattle.operator_lines.proofs.NumberLaws.{columns-length}
+use Rattle.operator_numbers.proofs.NumberLaws.{columns-length}
 use borrow.Author.Needs.{needs}
-use Rattle.operator_lines.proofs.numbers.put_columns.Statement.{statement}
-use Rattle.operator_lines.proofs.numbers.put_columns.Tie as tie
+use Rattle.operator_numbers.proofs.put_columns.Statement.{statement}
+use Rattle.operator_numbers.proofs.put_columns.Tie as tie
 
 add-end : tie.Need-add-end
 add-end c = search needs

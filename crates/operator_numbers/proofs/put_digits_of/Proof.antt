@@ -1,9 +1,9 @@
--- `operator_lines::numbers::put_digits_of` meets its contract: as many columns as the number has digits.
-use Rattle.operator_lines.specs.Frequencies.{inDigits}
+-- `operator_numbers::put_digits_of` meets its contract: as many columns as the number has digits.
+use Rattle.operator_numbers.specs.Frequencies.{inDigits}
 use native.Mathlib.Omega.{arith}
 use borrow.Author.Needs.{needs}
-use Rattle.operator_lines.proofs.numbers.put_digits_of.Statement.{statement}
-use Rattle.operator_lines.proofs.numbers.put_digits_of.Tie as tie
+use Rattle.operator_numbers.proofs.put_digits_of.Statement.{statement}
+use Rattle.operator_numbers.proofs.put_digits_of.Tie as tie
 
 digits-in-requires : tie.Need-digits-in-requires
 digits-in-requires c κs = search needs

@@ -1,11 +1,11 @@
--- `operator_lines::numbers::put_extreme` meets its contract: nothing, or the words and the frequency twice.
+-- `operator_numbers::put_extreme` meets its contract: nothing, or the words and the frequency twice.
 use denote.Ref.{now}
 use Rattle.printing.proofs.AppendLaws.{none, then}
-use Rattle.operator_lines.specs.Frequencies.{extremeText}
+use Rattle.operator_numbers.specs.Frequencies.{extremeText}
 use native.Mathlib.Omega.{arith}
 use borrow.Author.Needs.{needs}
-use Rattle.operator_lines.proofs.numbers.put_extreme.Statement.{statement}
-use Rattle.operator_lines.proofs.numbers.put_extreme.Tie as tie
+use Rattle.operator_numbers.proofs.put_extreme.Statement.{statement}
+use Rattle.operator_numbers.proofs.put_extreme.Tie as tie
 
 enum-told : tie.Need-enum-told
 enum-told c = search needs

@@ -1,10 +1,10 @@
--- `operator_lines::numbers::put_megahertz` meets its contract: the whole megahertz, a point and the fraction.
+-- `operator_numbers::put_megahertz` meets its contract: the whole megahertz, a point and the fraction.
 use Rattle.printing.proofs.AppendLaws.{then}
-use Rattle.operator_lines.specs.Frequencies.{megahertz}
+use Rattle.operator_numbers.specs.Frequencies.{megahertz}
 use native.Mathlib.Omega.{arith}
 use borrow.Author.Needs.{needs}
-use Rattle.operator_lines.proofs.numbers.put_megahertz.Statement.{statement}
-use Rattle.operator_lines.proofs.numbers.put_megahertz.Tie as tie
+use Rattle.operator_numbers.proofs.put_megahertz.Statement.{statement}
+use Rattle.operator_numbers.proofs.put_megahertz.Tie as tie
 
 put-digits-of-requires : tie.Need-put-digits-of-requires
 put-digits-of-requires c κs = search needs

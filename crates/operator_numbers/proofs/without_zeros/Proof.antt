@@ -1,12 +1,12 @@
--- `operator_lines::numbers::without_zeros` meets its contract: with the places that are left, what is left of the fraction is shortened as the fraction is.
+-- `operator_numbers::without_zeros` meets its contract: with the places that are left, what is left of the fraction is shortened as the fraction is.
 use mathlib.Core.Path.{_≡_, refl, sym, _∙_}
 use Prim.Native.Nat.{_≤_}
-use Rattle.operator_lines.specs.Frequencies.{shortened}
-use Rattle.operator_lines.proofs.NumberLaws.{short-stop, short-on, short-none}
+use Rattle.operator_numbers.specs.Frequencies.{shortened}
+use Rattle.operator_numbers.proofs.NumberLaws.{short-stop, short-on, short-none}
 use native.Mathlib.Omega.{arith}
 use borrow.Author.Needs.{needs}
-use Rattle.operator_lines.proofs.numbers.without_zeros.Statement.{statement}
-use Rattle.operator_lines.proofs.numbers.without_zeros.Tie as tie
+use Rattle.operator_numbers.proofs.without_zeros.Statement.{statement}
+use Rattle.operator_numbers.proofs.without_zeros.Tie as tie
 
 abbrev Inv-loop : tie.InvT-loop
 Inv-loop fraction digits₀ left₀ digits left = (left ≤ 7) × (shortened 7 fraction ≡ shortened left digits)

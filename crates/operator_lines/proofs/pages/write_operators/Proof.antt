@@ -7,7 +7,8 @@ use Rattle.printing.specs.Lines.{refusedLine}
 use Rattle.printing.proofs.WriteLaws.{written}
 use Rattle.operator_counts.specs.Counts.{operators}
 use Rattle.operator_pages.proofs.PageLaws.{rows-fit}
-use Rattle.operator_lines.proofs.PageLines.{answer-is, refused-lines, whole-lines}
+use Rattle.operator_pages.proofs.FoundLaws.{answer-is}
+use Rattle.operator_lines.proofs.PageLines.{refused-lines, whole-lines}
 use native.Mathlib.Omega.{arith}
 use borrow.Author.Needs.{needs}
 use Rattle.operator_lines.proofs.pages.write_operators.Statement.{statement}
