@@ -14,13 +14,7 @@ use Rattle.flaws.specs.Flaws.{flawless, ranged}
 use Rattle.flaw_parts.specs.Parts.{flawWith, flawlessAll}
 use Rattle.flaws.specs.declared.Flaw.{Flaw}
 use Rattle.flaws.specs.declared.Flaw.the-variants as flaw
-use Rattle.walking.specs.Facts.{facts, factOf}
 use Rattle.walking.specs.Walks.{cell, standsBy, keptBy, firstRow, saidBehind, flawBehind, flawsFor, flawsBy}
-
--- above the facts there is none
-pub no-fact : (fact : ℕ) (p : List ℕ) → 6 ≤ fact → false ≡ factOf fact p
-unfolding factOf
-no-fact fact p h = sym (ap (λ (f : List ℕ → Bool). f p) (List·getD-eq-default facts (λ p. false) h))
 
 -- from row j on: one that is kept is passed, one that is broken is given, and past the last there is none
 module _ (entries : List (List ℕ)) (r : List ℕ) (low high : ℕ) (rows : List (List ℕ)) (j : ℕ) where

@@ -10,7 +10,7 @@ use Rattle.flaws.specs.Flaws.{flawless, ranged}
 use Rattle.flaws.specs.declared.Flaw.{Flaw}
 use Rattle.flaw_parts.specs.Parts.{flawlessAll}
 use Rattle.entries.specs.Entries.{entryFlaw}
-use Rattle.walking.specs.Facts.{factOf}
+use Rattle.facts.specs.Facts.{factOf}
 
 -- Number j of entry or row i.
 abbrev pub cell : List (List ℕ) → ℕ → ℕ → ℕ

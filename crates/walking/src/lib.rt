@@ -1,10 +1,9 @@
 // Judging a record by any two tables: one loop over the entries of its fields, one over the rows that bind fields together.
-pub mod facts;
 pub mod parts;
 
-use crate::facts::is_fact;
 use crate::parts::piece;
 use entries::entry_flaw;
+use facts::is_fact;
 use flaws::Flaw;
 use number_flaws::range_flaw;
 ghost use mathlib.Core.Path.{_≡_};

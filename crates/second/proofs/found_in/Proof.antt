@@ -19,7 +19,7 @@ use Rattle.station.specs.Between.{roundAntenna, betweenRules}
 use Rattle.station.specs.Values.{stationOf}
 use Rattle.station.specs.Codes.{valueOf}
 use Rattle.judging.proofs.FilledLaws.{frequency-given, tenths-given, height-given}
-use Rattle.walking.specs.Facts.{factOf}
+use Rattle.facts.specs.Facts.{factOf}
 use Rattle.walking.specs.Walks.{firstRow, flawBehind}
 use Rattle.second.proofs.TableLaws.{by-tables}
 use borrow.Author.Needs.{needs}

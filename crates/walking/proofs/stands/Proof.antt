@@ -3,7 +3,7 @@ use Prim.Native.Nat.{_-_}
 use mathlib.Core.Path.{_≡_, ap, _∙_}
 use denote.Ref.{now}
 use borrow.Author.Tests.{ne-eqb, le-leb, lt-leb}
-use Rattle.walking.specs.Facts.{factOf}
+use Rattle.facts.specs.Facts.{factOf}
 use Rattle.walking.specs.Walks.{fieldBehind}
 use borrow.Author.Needs.{needs}
 use Rattle.walking.proofs.stands.Statement.{statement}

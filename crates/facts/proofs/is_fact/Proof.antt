@@ -1,13 +1,13 @@
--- `walking::facts::is_fact` meets its contract, fact by fact.
+-- `facts::is_fact` meets its contract, fact by fact.
 use mathlib.Core.Path.{sym, ap, _∙_}
 use native.Mathlib.Omega.{arith}
 use denote.Ref.{now}
 use Rattle.flaw_parts.proofs.CodeLaws.{past}
-use Rattle.walking.specs.Facts.{factOf}
-use Rattle.walking.proofs.WalkLaws.{no-fact}
+use Rattle.facts.specs.Facts.{factOf}
+use Rattle.facts.proofs.FactLaws.{no-fact}
 use borrow.Author.Needs.{needs}
-use Rattle.walking.proofs.facts.is_fact.Statement.{statement}
-use Rattle.walking.proofs.facts.is_fact.Tie as tie
+use Rattle.facts.proofs.is_fact.Statement.{statement}
+use Rattle.facts.proofs.is_fact.Tie as tie
 
 is-blank-requires : tie.Need-is-blank-requires
 is-blank-requires c κs = search needs

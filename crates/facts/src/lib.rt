@@ -5,7 +5,7 @@ use columns::texts::is_blank;
 use numerals::amount_in;
 use station::between::is_repeater_name;
 ghost use mathlib.Core.Path.{_≡_};
-ghost use Rattle.walking.specs.Facts.{factOf};
+ghost use Rattle.facts.specs.Facts.{factOf};
 
 // Whether a fact stands of a field, by its number: filled, begins with M, is FL, is 0, is 000ND00, ends in _R.
 pub fn is_fact(fact: usize, s: &[u8]) -> bool
