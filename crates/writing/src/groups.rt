@@ -1,24 +1,19 @@
-// The five groups of a station's fields, each field written straight into its own columns.
+// The groups of a station's fields before and behind its emission, each field written straight into its own columns.
 use columns::texts::write_byte;
 use columns::texts::write_text;
 use days::dates::put_day;
-use distances::put_ground;
 use distances::put_height;
 use distances::put_radius;
-use formats::Format;
 use frequencies::put_amount;
 use frequencies::put_unit;
 use positions::put_position;
-use station::Antenna;
 use station::Channel;
 use station::Coordination;
-use station::Emission;
 use station::Site;
-use tenths::put_tenths;
 ghost use mathlib.Core.Path.{_≡_};
 ghost use lib.ListN.{length, drop};
 ghost use Rattle.basics.specs.Fields.{joined};
-ghost use Rattle.station.specs.Groups.{channelPieces, sitePieces, emissionPieces, antennaPieces, coordinationPieces};
+ghost use Rattle.station.specs.Groups.{channelPieces, sitePieces, coordinationPieces};
 
 // 6A, 6B, 6Z and 10Z, columns 14 to 20: what it is used for.
 fn put_use(g: Channel, s: &mut [u8])
@@ -71,55 +66,6 @@ pub(crate) fn put_site(g: Site, s: &mut [u8])
     let country = g.country;
     write_text(&mut s[28..31], &country);
     put_location(g, &mut s[31..55]);
-}
-
-// 9A and 9B, columns 92 to 101: where it is sent to.
-fn put_direction(g: Emission, s: &mut [u8])
-    requires { ⌜ length (now s) ≡ 10 ⌝ }
-    ensures { λ _. ⌜ now (s .exit) ≡ joined (drop 3 (emissionPieces g)) ⌝ }
-{
-    let azimuth = g.azimuth;
-    put_tenths(Format::Azimuth, &mut s[0..5], azimuth);
-    let elevation = g.elevation;
-    put_tenths(Format::Elevation, &mut s[5..10], elevation);
-}
-
-// 7A, 8B1, 8B2 and the direction, columns 76 to 101.
-pub(crate) fn put_emission(g: Emission, s: &mut [u8])
-    requires { ⌜ length (now s) ≡ 26 ⌝ }
-    ensures { λ _. ⌜ now (s .exit) ≡ joined (emissionPieces g) ⌝ }
-{
-    let designation = g.designation;
-    write_text(&mut s[0..9], &designation);
-    let power = g.power;
-    put_tenths(Format::Power, &mut s[9..15], power);
-    write_byte(&mut s[15..16], g.basis);
-    put_direction(g, &mut s[16..26]);
-}
-
-// 9XH and 9XV, columns 112 to 125: the types of the antenna.
-fn put_types(g: Antenna, s: &mut [u8])
-    requires { ⌜ length (now s) ≡ 14 ⌝ }
-    ensures { λ _. ⌜ now (s .exit) ≡ joined (drop 3 (antennaPieces g)) ⌝ }
-{
-    let horizontal = g.horizontal;
-    write_text(&mut s[0..7], &horizontal);
-    let vertical = g.vertical;
-    write_text(&mut s[7..14], &vertical);
-}
-
-// 9D, 9G, 9Y and the types, columns 102 to 125.
-pub(crate) fn put_antenna(g: Antenna, s: &mut [u8])
-    requires { ⌜ length (now s) ≡ 24 ⌝ }
-    ensures { λ _. ⌜ now (s .exit) ≡ joined (antennaPieces g) ⌝ }
-{
-    let polarisation = g.polarisation;
-    write_text(&mut s[0..2], &polarisation);
-    let gain = g.gain;
-    put_tenths(Format::Gain, &mut s[2..6], gain);
-    let ground = g.ground;
-    put_ground(&mut s[6..10], ground);
-    put_types(g, &mut s[10..24]);
 }
 
 // 13Y, 2W, 2Z and 13X, columns 188 to 219: how it was coordinated.

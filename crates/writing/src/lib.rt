@@ -1,10 +1,10 @@
 // A typed station written into a lent record, each field straight into its own columns.
-use crate::groups::put_antenna;
 use crate::groups::put_channel;
 use crate::groups::put_coordination;
-use crate::groups::put_emission;
 use crate::groups::put_site;
 use basics::Outcome;
+use emission_writing::put_antenna;
+use emission_writing::put_emission;
 use station::Station;
 use station::typed::typed_code;
 ghost use mathlib.Core.Path.{_≡_};

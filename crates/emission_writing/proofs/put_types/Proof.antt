@@ -1,12 +1,12 @@
--- `writing::groups::put_types` meets its contract: each field is written after the one before it.
+-- `emission_writing::put_types` meets its contract: each field is written after the one before it.
 use mathlib.Core.Path.{_≡_}
 use lib.ListN.{length}
 use Rattle.station.specs.Groups.{antennaPieces}
 use Rattle.basics.proofs.WriteLaws.{nothing-yet, then-text, all-written}
 use borrow.Author.Needs.{needs}
 use native.Mathlib.Omega.{arith}
-use Rattle.writing.proofs.groups.put_types.Statement.{statement}
-use Rattle.writing.proofs.groups.put_types.Tie as tie
+use Rattle.emission_writing.proofs.put_types.Statement.{statement}
+use Rattle.emission_writing.proofs.put_types.Tie as tie
 
 -- the texts have the width of their columns
 horizontal-wide : (s : tie.Start) → length (s .args .g .horizontal) ≡ 7

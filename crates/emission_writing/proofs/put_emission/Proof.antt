@@ -1,4 +1,4 @@
--- `writing::groups::put_emission` meets its contract: each field is written after the one before it.
+-- `emission_writing::put_emission` meets its contract: each field is written after the one before it.
 use mathlib.Core.Path.{_≡_, refl}
 use mathlib.Core.Bool.{true}
 use mathlib.Core.List.{[], _∷_}
@@ -8,8 +8,8 @@ use Rattle.station.specs.Groups.{emissionPieces}
 use Rattle.basics.proofs.WriteLaws.{nothing-yet, then-one, then-text, then-some, all-written}
 use borrow.Author.Needs.{needs}
 use native.Mathlib.Omega.{arith}
-use Rattle.writing.proofs.groups.put_emission.Statement.{statement}
-use Rattle.writing.proofs.groups.put_emission.Tie as tie
+use Rattle.emission_writing.proofs.put_emission.Statement.{statement}
+use Rattle.emission_writing.proofs.put_emission.Tie as tie
 
 -- the texts have the width of their columns
 designation-wide : (s : tie.Start) → length (s .args .g .designation) ≡ 9

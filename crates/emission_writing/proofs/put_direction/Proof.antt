@@ -1,4 +1,4 @@
--- `writing::groups::put_direction` meets its contract: each field is written after the one before it.
+-- `emission_writing::put_direction` meets its contract: each field is written after the one before it.
 use mathlib.Core.Path.{_≡_}
 use mathlib.Core.Bool.{true, false}
 use lib.ListN.{length}
@@ -7,8 +7,8 @@ use Rattle.station.specs.Groups.{emissionPieces}
 use Rattle.basics.proofs.WriteLaws.{nothing-yet, then-one, all-written}
 use borrow.Author.Needs.{needs}
 use native.Mathlib.Omega.{arith}
-use Rattle.writing.proofs.groups.put_direction.Statement.{statement}
-use Rattle.writing.proofs.groups.put_direction.Tie as tie
+use Rattle.emission_writing.proofs.put_direction.Statement.{statement}
+use Rattle.emission_writing.proofs.put_direction.Tie as tie
 
 sub-put-tenths : tie.Need-sub-put-tenths
 sub-put-tenths c = search needs

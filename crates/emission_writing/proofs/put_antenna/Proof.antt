@@ -1,4 +1,4 @@
--- `writing::groups::put_antenna` meets its contract: each field is written after the one before it.
+-- `emission_writing::put_antenna` meets its contract: each field is written after the one before it.
 use mathlib.Core.Path.{_≡_}
 use mathlib.Core.Bool.{false}
 use lib.ListN.{length, drop}
@@ -8,8 +8,8 @@ use Rattle.station.specs.Groups.{antennaPieces}
 use Rattle.basics.proofs.WriteLaws.{nothing-yet, then-one, then-text, then-some, all-written}
 use borrow.Author.Needs.{needs}
 use native.Mathlib.Omega.{arith}
-use Rattle.writing.proofs.groups.put_antenna.Statement.{statement}
-use Rattle.writing.proofs.groups.put_antenna.Tie as tie
+use Rattle.emission_writing.proofs.put_antenna.Statement.{statement}
+use Rattle.emission_writing.proofs.put_antenna.Tie as tie
 
 -- the texts have the width of their columns
 polarisation-wide : (s : tie.Start) → length (s .args .g .polarisation) ≡ 2
