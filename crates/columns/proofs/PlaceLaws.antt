@@ -1,16 +1,18 @@
 -- A field whose every place has a rule of its own, taken apart into runs of one set, literals and single places, from place i on.
 use mathlib.Core.Path.{_≡_, refl, sym, ap, _∙_}
-use mathlib.Core.Bool.{Bool, true, false, _&&_, and-assoc}
+use mathlib.Core.Bool.{Bool, true, false, _&&_, false≢true, and-assoc, and-true}
 use mathlib.Core.List.{List, [], _∷_, _++_}
-use Prim.Native.Nat.{ℕ, suc, _+_, _≤_, _<_}
+use Prim.Native.Nat.{ℕ, zero, suc, _+_, _≤_, _<_}
 use Prim.Native.String.{String}
 use Prim.Native.String as text
 use native.Mathlib.Omega.{arith}
 use native.Mathlib.Numerals.{add-one}
 use lib.ListN.{length, getD, take, drop, replicate, length-drop, length-replicate, drop-of-length-le}
-use borrow.Author.Tests.{eq-eqb}
+use lib.Dec.{leb}
+use borrow.Author.Tests.{eq-eqb, leb-true}
 use lib.Seq.{drop-cons, drop-drop, take-all, length-take-le}
 use Rattle.columns.specs.Sets.{is}
+use Rattle.columns.specs.Frames.{frames}
 use Rattle.columns.specs.Texts.{bytes, every, each, exactly, same}
 use Rattle.columns.proofs.TextLaws as texts
 use Rattle.columns.proofs.ColumnLaws.{each-sized}
@@ -71,3 +73,28 @@ module _ (s : List ℕ) (i : ℕ) where
   pub each-none : length s ≤ i → each [] (drop i s) ≡ true
   unfolding each
   each-none h = rw (drop-of-length-le s h)
+
+-- bytes from those of one text up to those of another, asked byte after byte with what was found so far
+module _ (low high s : List ℕ) (e : length low ≡ length s) (f : length high ≡ length s) where
+  pub framed-next : (i : ℕ) (all b : Bool) → i < length s → b ≡ (leb (getD low i 0) (getD s i 0) && leb (getD s i 0) (getD high i 0))
+      → (all && each (frames (drop i low) (drop i high)) (drop i s)) ≡ ((all && b) && each (frames (drop (i + 1) low) (drop (i + 1) high)) (drop (i + 1) s))
+  unfolding each
+  framed-next i all b h q =
+      rw (add-one i, drop-cons s i 0 h, drop-cons low i 0 (omega (arith, e)), drop-cons high i 0 (omega (arith, f)), q) (sym (and-assoc all _ _))
+
+  pub framed-done : (i : ℕ) (all : Bool) → length s ≤ i → (all && each (frames (drop i low) (drop i high)) (drop i s)) ≡ all
+  unfolding each
+  framed-done i all h = rw (drop-of-length-le s h, drop-of-length-le low {i = i} (omega (arith, e))) (and-true all)
+
+-- so each byte stands between the two of its place
+pub framed-at : (low high p : List ℕ) → each (frames low high) p ≡ true → (i : ℕ) → i < length p → (getD low i 0 ≤ getD p i 0) × (getD p i 0 ≤ getD high i 0)
+unfolding each
+framed-at low high [] e i h = absurd (omega arith)
+framed-at [] high (c ∷ p) e i h = absurd (false≢true e)
+framed-at (x ∷ low) [] (c ∷ p) e i h = absurd (false≢true e)
+framed-at (x ∷ low) (y ∷ high) (c ∷ p) e zero h =
+    let here = texts.and-split (leb x c && leb c y) (each (frames low high) p) e .0 in
+    let both = texts.and-split (leb x c) (leb c y) here in
+    (leb-true x c (both .0), leb-true c y (both .1))
+framed-at (x ∷ low) (y ∷ high) (c ∷ p) e (suc i) h =
+    framed-at low high p (texts.and-split (leb x c && leb c y) (each (frames low high) p) e .1) i (omega arith)

@@ -1,5 +1,5 @@
 -- A `match` on a byte decides as a set does: one computed test for each run of bytes between two ends, and one for the bytes that are named singly.
-use mathlib.Core.Path.{_≡_, refl}
+use mathlib.Core.Path.{_≡_, refl, sym, ap, _∙_}
 use mathlib.Core.Logic.{_⊎_, inl, inr}
 use mathlib.Core.Bool.{Bool, true, false, _&&_, _||_, Bool·beq}
 use mathlib.Core.List.{List, [], _∷_}
@@ -10,11 +10,12 @@ use lib.Dec.{T}
 use mir.Val.{hasKey}
 use types.Run.{OneOf, hit}
 
-and-left : (a b : Bool) → T (a && b) → T a
+-- both hold
+pub and-left : (a b : Bool) → T (a && b) → T a
 and-left true b t = tt
 and-left false b t = t
 
-and-right : (a b : Bool) → T (a && b) → T b
+pub and-right : (a b : Bool) → T (a && b) → T b
 and-right true b t = t
 and-right false b t = absurd t
 
@@ -61,3 +62,17 @@ keyed set b [] t c o = absurd o
 keyed set b (k ∷ []) t c o = rw o (agreed b (set k) (and-left (Bool·beq b (set k)) (answers set b []) t))
 keyed set b (k ∷ j ∷ ks) t c (inl e) = rw e (agreed b (set k) (and-left (Bool·beq b (set k)) (answers set b (j ∷ ks)) t))
 keyed set b (k ∷ j ∷ ks) t c (inr o) = keyed set b (j ∷ ks) (and-right (Bool·beq b (set k)) (answers set b (j ∷ ks)) t) c o
+
+-- both answer the same below n
+abbrev pub agreeing : (ℕ → Bool) → (ℕ → Bool) → ℕ → Bool
+agreeing S R zero = true
+agreeing S R (suc n) = Bool·beq (S n) (R n) && agreeing S R n
+
+-- so on each number below n: one computed test for all bytes
+pub agree-below : (S R : ℕ → Bool) (n : ℕ) → T (agreeing S R n) → (c : ℕ) → c < n → S c ≡ R c
+agree-below S R zero t c h = absurd (omega arith)
+agree-below S R (suc n) t c h =
+    by (eq-or-lt-of-le (omega arith)) (agreed (S n) (R n) (and-left (Bool·beq (S n) (R n)) (agreeing S R n) t)) (agree-below S R n (and-right (Bool·beq (S n) (R n)) (agreeing S R n) t) c) where
+      by : (c ≡ n) ⊎ (c < n) → S n ≡ R n → (c < n → S c ≡ R c) → S c ≡ R c
+      by (inl e) q f = ap S e ∙ q ∙ ap R (sym e)
+      by (inr l) q f = f l

@@ -11,7 +11,7 @@ use lib.Arith.{lt-of-le-ne}
 use lib.Dec.{eqb, eqb·suc-suc}
 use lib.ListN.{length, getD, take, drop, replicate, length-drop, drop-of-length-le, List·getD-eq-default}
 use lib.Seq.{drop-cons, getD-drop, drop-drop, take-all, take-suc, take-length, length-take-le}
-use borrow.Author.Tests.{eq-eqb, ne-eqb}
+use borrow.Author.Tests.{eq-eqb, ne-eqb, eqb-true}
 use Rattle.columns.specs.Texts.{head, tail, ended, skip, blank, trimmed, every, each, same, textIn}
 
 -- the text of columns that are there is their bytes
@@ -99,6 +99,23 @@ pub every-end : (test : ℕ → Bool) (s : List ℕ) (i : ℕ) → length s ≤ 
 unfolding every
 every-end test s i h = rw (drop-of-length-le s h)
 
+-- asked byte after byte, with what was found so far
+pub every-next : (test : ℕ → Bool) (s : List ℕ) (i : ℕ) (all b : Bool) → i < length s → b ≡ test (getD s i 0) → (all && every test (drop i s)) ≡ ((all && b) && every test (drop (i + 1) s))
+unfolding every
+every-next test s i all b h e = rw (add-one i, drop-cons s i 0 h, e) (sym (and-assoc all (test (getD s i 0)) (every test (drop (suc i) s))))
+
+pub every-done : (test : ℕ → Bool) (s : List ℕ) (i : ℕ) (all : Bool) → length s ≤ i → (all && every test (drop i s)) ≡ all
+every-done test s i all h = rw (every-end test s i h) (and-true all)
+
+-- a byte that is asked for by itself, and that passes, may be asked with those behind it
+pub every-with : (test : ℕ → Bool) (s : List ℕ) (i k x : ℕ) → i < length s → test x ≡ true
+    → (eqb (getD s i 0) x && every test (take (suc k) (drop i s))) ≡ (eqb (getD s i 0) x && every test (take k (drop (i + 1) s)))
+unfolding every
+every-with test s i k x h e = rw (add-one i, drop-cons s i 0 h) (by (eqb (getD s i 0) x) refl) where
+  by : (b : Bool) → eqb (getD s i 0) x ≡ b → (b && (test (getD s i 0) && every test (take k (drop (suc i) s)))) ≡ (b && every test (take k (drop (suc i) s)))
+  by true q = rw (eqb-true (getD s i 0) x q, e)
+  by false q = refl
+
 -- equal texts have one length
 pub same-length : (a b : List ℕ) → same a b ≡ true → length a ≡ length b
 unfolding same
@@ -133,6 +150,13 @@ unfolding every
 every-drop test zero p e = e
 every-drop test (suc n) [] e = refl
 every-drop test (suc n) (c ∷ p) e = every-drop test n p (and-split (test c) (every test p) e .1)
+
+-- and on the byte at each place
+pub every-at : (test : ℕ → Bool) (p : List ℕ) (i : ℕ) → every test p ≡ true → i < length p → test (getD p i 0) ≡ true
+unfolding every
+every-at test [] i e h = absurd (omega arith)
+every-at test (c ∷ p) zero e h = and-split (test c) (every test p) e .0
+every-at test (c ∷ p) (suc i) e h = every-at test p i (and-split (test c) (every test p) e .1) (omega arith)
 
 -- k places of one test: k bytes, and each passes
 pub each-replicate : (k : ℕ) (test : ℕ → Bool) (p : List ℕ) → each (replicate k test) p ≡ eqb (length p) k && every test p

@@ -15,6 +15,12 @@ blank-cons c t = by (is " " c) where
   by true = refl
   by false = refl
 
+-- so blank is a test on every byte
+pub blank-every : (p : List ℕ) → blank p ≡ every (is " ") p
+unfolding every
+blank-every [] = unfold skip in refl
+blank-every (c ∷ p) = blank-cons c p ∙ ap (λ (b : Bool). is " " c && b) (blank-every p)
+
 -- a text of one byte is blank where it is a space
 pub blank-one : (c : ℕ) → blank (c ∷ []) ≡ is " " c
 unfolding skip

@@ -1,13 +1,15 @@
 // Tests on texts: blank, equal, of a set, left-justified. And what needs no reading is written: spaces, and text.
 use crate::sets::Set;
 use crate::sets::has;
+use crate::sets::is_between;
 ghost use mathlib.Core.Path.{_≡_};
 ghost use mathlib.Core.Bool.{cond, _||_};
 ghost use mathlib.Core.List.{[], _∷_};
 ghost use Prim.Native.Nat.{_≤_};
 ghost use lib.ListN.{length, getD, take, drop, replicate};
 ghost use Rattle.columns.specs.Sets.{setOf};
-ghost use Rattle.columns.specs.Texts.{skip, blank, trimmed, every, same, sized, textGood};
+ghost use Rattle.columns.specs.Texts.{skip, blank, trimmed, every, each, same, sized, textGood};
+ghost use Rattle.columns.specs.Frames.{frames};
 
 // The byte at i, 0 past the end.
 pub fn byte(s: &[u8], i: usize) -> u8
@@ -31,25 +33,51 @@ pub fn spaces(s: &[u8]) -> usize
     at
 }
 
-// All spaces.
-pub fn is_blank(s: &[u8]) -> bool
+// All spaces, asked one after the other: for the few bytes that are left of a field.
+pub fn is_blank_rest(s: &[u8]) -> bool
     ensures { λ r. ⌜ r ≡ blank (now (s .entry)) ⌝ }
 {
     spaces(s) == s.len()
 }
 
-// Every byte is of the set.
+// All spaces, asked of all bytes at once: for a whole field.
+pub fn is_blank(s: &[u8]) -> bool
+    ensures { λ r. ⌜ r ≡ blank (now (s .entry)) ⌝ }
+{
+    let mut all = true;
+    let mut i = 0;
+    while i < s.len() {
+        all = all & (s[i] == b' ');
+        i += 1;
+    }
+    all
+}
+
+// Every byte is of the set; all are asked at once, so there is no way out before the end.
 pub fn all_in(set: Set, s: &[u8]) -> bool
     ensures { λ r. ⌜ r ≡ every (setOf set) (now (s .entry)) ⌝ }
 {
+    let mut all = true;
     let mut i = 0;
     while i < s.len() {
-        if !has(set, s[i]) {
-            return false;
-        }
+        all = all & has(set, s[i]);
         i += 1;
     }
-    true
+    all
+}
+
+// Each byte is from that of low up to that of high, place by place; all are asked at once.
+pub fn is_framed(s: &[u8], low: &[u8], high: &[u8]) -> bool
+    requires { ⌜ (length (now low) ≡ length (now s)) × (length (now high) ≡ length (now s)) ⌝ }
+    ensures { λ r. ⌜ r ≡ each (frames (now (low .entry)) (now (high .entry))) (now (s .entry)) ⌝ }
+{
+    let mut all = true;
+    let mut i = 0;
+    while i < s.len() {
+        all = all & is_between(low[i], high[i], s[i]);
+        i += 1;
+    }
+    all
 }
 
 // The two texts are equal. References of one list mostly begin alike, so that the last bytes are looked at first.

@@ -1,46 +1,18 @@
 -- Two sets that agree on every byte agree on every number, where neither reaches beyond the bytes: one computed test. So a set is its letters.
 use mathlib.Core.Path.{_≡_, refl, sym, ap, _∙_}
-use mathlib.Core.Logic.{_⊎_, inl, inr}
-use mathlib.Core.Bool.{Bool, true, false, cond, _&&_, _||_, Bool·beq, and-false}
+use mathlib.Core.Bool.{Bool, true, false, cond, _&&_, _||_, and-false}
 use mathlib.Core.List.{List, [], _∷_}
-use Prim.Native.Nat.{ℕ, zero, suc, _≤_, _<_}
+use Prim.Native.Nat.{ℕ, _≤_, _<_}
 use Prim.Native.Char.{Char, code}
 use Prim.Native.String.{String}
 use Prim.Native.String as string
 use native.Mathlib.Omega.{arith}
-use native.Mathlib.Nat.{eq-or-lt-of-le}
 use lib.Dec.{T, ltb, leb, eqb}
 use borrow.Author.Tests.{ltb-true, ltb-false, lt-leb, ne-eqb}
 use Rattle.columns.specs.Sets.{is, among, between}
 use Rattle.columns.specs.Texts.{bytes, every}
+use Rattle.columns.proofs.SetLaws.{and-left, and-right, agreeing, agree-below}
 use Rattle.flaws.specs.Flaws.{letterOf, unread}
-
--- both answer the same below n
-abbrev pub agreeing : (ℕ → Bool) → (ℕ → Bool) → ℕ → Bool
-agreeing S R zero = true
-agreeing S R (suc n) = Bool·beq (S n) (R n) && agreeing S R n
-
-and-left : (a b : Bool) → T (a && b) → T a
-and-left true b t = tt
-and-left false b t = t
-
-and-right : (a b : Bool) → T (a && b) → T b
-and-right true b t = t
-and-right false b t = absurd t
-
-agreed : (a b : Bool) → T (Bool·beq a b) → a ≡ b
-agreed true true t = refl
-agreed true false t = absurd t
-agreed false true t = absurd t
-agreed false false t = refl
-
-agree-below : (S R : ℕ → Bool) (n : ℕ) → T (agreeing S R n) → (c : ℕ) → c < n → S c ≡ R c
-agree-below S R zero t c h = absurd (omega arith)
-agree-below S R (suc n) t c h =
-    by (eq-or-lt-of-le (omega arith)) (agreed (S n) (R n) (and-left (Bool·beq (S n) (R n)) (agreeing S R n) t)) (agree-below S R n (and-right (Bool·beq (S n) (R n)) (agreeing S R n) t) c) where
-      by : (c ≡ n) ⊎ (c < n) → S n ≡ R n → (c < n → S c ≡ R c) → S c ≡ R c
-      by (inl e) q f = ap S e ∙ q ∙ ap R (sym e)
-      by (inr l) q f = f l
 
 low-true : (b : Bool) → T b → b ≡ true
 low-true true t = refl

@@ -4,6 +4,7 @@ use columns::sets::is_upper;
 use columns::texts::all_in;
 use columns::texts::equal;
 use columns::texts::is_either;
+use columns::texts::is_framed;
 ghost use mathlib.Core.Path.{_≡_};
 ghost use mathlib.Core.Bool.{_||_};
 ghost use Rattle.columns.specs.Texts.{same};
@@ -85,20 +86,14 @@ pub fn is_carrier(c: u8) -> bool
     }
 }
 
-// 4A, the name of the station: four digits, an underscore, and fifteen bytes of the name.
+// 4A, the name of the station: four digits, an underscore, and fifteen bytes of the name. The underscore is asked with these once more, sixteen bytes at once.
 pub fn is_station_name(s: &[u8]) -> bool
     ensures { λ r. ⌜ r ≡ fitsAt 9 (now (s .entry)) ⌝ }
 {
     if s.len() != 20 {
         return false;
     }
-    if !all_in(Set::Digit, &s[0..4]) {
-        return false;
-    }
-    if s[4] != b'_' {
-        return false;
-    }
-    all_in(Set::Name, &s[5..20])
+    all_in(Set::Digit, &s[0..4]) & (s[4] == b'_') & all_in(Set::Name, &s[4..20])
 }
 
 // 4B, the country: one to three letters, then spaces.
@@ -150,13 +145,7 @@ pub fn is_antenna(s: &[u8]) -> bool
     if s.len() != 7 {
         return false;
     }
-    if !all_in(Set::Digit, &s[0..3]) {
-        return false;
-    }
-    if !all_in(Set::Upper, &s[3..5]) {
-        return false;
-    }
-    all_in(Set::Digit, &s[5..7])
+    is_framed(s, b"000AA00", b"999ZZ99")
 }
 
 // 13Y, the status of the coordination: F or B.
@@ -176,14 +165,8 @@ pub fn is_reference(s: &[u8]) -> bool
     if s.len() != 15 {
         return false;
     }
-    if !equal(b"AUT", &s[0..3]) {
-        return false;
-    }
-    if !all_in(Set::Digit, &s[3..7]) {
-        return false;
-    }
-    if !all_in(Set::Narrow, &s[7..12]) {
-        return false;
-    }
-    all_in(Set::Digit, &s[12..15])
+    equal(b"AUT", &s[0..3])
+        & all_in(Set::Digit, &s[3..7])
+        & all_in(Set::Narrow, &s[7..12])
+        & all_in(Set::Digit, &s[12..15])
 }
