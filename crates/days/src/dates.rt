@@ -6,7 +6,7 @@ use columns::texts::is_blank;
 use columns::texts::write_blank;
 use flaws::Flaw;
 use flaws::unread_of;
-use numerals::digits;
+use numerals::number_of;
 use numerals::put_digits;
 ghost use mathlib.Core.Path.{_≡_};
 ghost use mathlib.Core.Bool.{true, cond, _&&_};
@@ -63,8 +63,7 @@ fn number_in(p: &[u8]) -> u16
     requires { ⌜ (length (now p) ≤ 4) × (every isDigit (now p) ≡ true) ⌝ }
     ensures { λ r. ⌜ r ≡ number (now (p .entry)) ⌝ }
 {
-    let d = digits(p, 4, 0);
-    d.value as u16
+    number_of(p) as u16
 }
 
 // Eight digits: two of the day, two of the month, four of the year.

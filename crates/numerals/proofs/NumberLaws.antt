@@ -5,21 +5,22 @@ use mathlib.Core.List.{List, [], _∷_}
 use Prim.Native.Nat.{ℕ, zero, suc, _+_, _-_, _*_, _/_, _^_, _≤_, _<_}
 use native.Mathlib.Omega.{arith}
 use native.Mathlib.Decide.{decLt}
-use native.Mathlib.Numerals.{sub-one}
+use native.Mathlib.Numerals.{add-one, sub-one}
 use native.Mathlib.Nat.{zero-add, add-zero, add-suc, suc-add, pow-suc, pow-succ', pow-le-pow-right, mul-assoc, one-le-pow}
 use lib.Dec.{leb, ltb, eqb}
 use lib.ListN.{length, getD, take, drop, length-take, List·getD-eq-default}
+use lib.Seq.{drop-cons}
 use borrow.Author.Tests.{leb-true, lt-ltb, le-ltb, ne-eqb}
 use Rattle.columns.specs.Sets.{isDigit}
 use Rattle.columns.specs.Texts.{head, tail, ended, skip, every, blank}
 use Rattle.flaws.specs.Flaws.{unread}
 use Rattle.flaws.specs.declared.Flaw.{Flaw}
-use Rattle.numerals.specs.Numbers.{leading, numberFrom, wholeDigits, amount, inSign, hasMinus, unsigned, numberOf, wholeOf}
+use Rattle.numerals.specs.Numbers.{leading, numberFrom, number, wholeDigits, amount, inSign, hasMinus, unsigned, numberOf, wholeOf}
 use Rattle.numerals.specs.declared.Whole.{Whole}
 use Rattle.numerals.specs.declared.Whole.the-variants as whole
 use Rattle.numerals.specs.declared.Signed.{Signed}
 use Rattle.numerals.specs.declared.Signed.the-variants as signed
-use Rattle.columns.proofs.TextLaws.{and-split, cond-case, head-at, tail-at, at-end, not-at-end, every-take, every-drop}
+use Rattle.columns.proofs.TextLaws.{and-split, cond-case, head-at, tail-at, at-end, not-at-end, every-take, every-drop, every-at}
 
 pub digit-range : (c : ℕ) → isDigit c ≡ true → (48 ≤ c) × (c ≤ 57)
 digit-range c e = let h = and-split (leb 48 c) (leb c 57) e in (leb-true 48 c (h .0), leb-true c 57 (h .1))
@@ -199,3 +200,31 @@ part-below n i s e = let d = digits-part n i s e in digits-below n (take n (drop
 pub amount-small : (p : List ℕ) → amount (wholeOf p) < 10 ^ 18
 unfolding wholeOf
 amount-small p = cond-case (λ (w : Whole). amount w < 10 ^ 18) (blank p) (λ e. omega arith) (λ e. whole-small (skip p))
+
+-- digits in every column are a whole number
+pub whole-plain : (p : List ℕ) → every isDigit p ≡ true → 0 < length p → length p ≤ 18 → wholeOf p ≡ whole.Filled (number p)
+unfolding wholeOf wholeDigits every skip
+whole-plain [] e h l = absurd (omega arith)
+whole-plain (c ∷ p) e h l =
+    let low = digit-range c (and-split (isDigit c) (every isDigit p) e .0) .0 in
+    rw (ne-eqb c 32 (λ q. omega arith), leading-all 18 (c ∷ p) e l, at-end (c ∷ p) (length (c ∷ p)) refl)
+
+-- a turn at place i of digits, read onto what those before it say
+pub record Said (p : List ℕ) (i v : ℕ) : Type 0 where
+  pub low : 48 ≤ getD p i 0
+  pub high : getD p i 0 ≤ 57
+  pub below : v * 10 + 9 < 10 ^ (i + 1)
+  pub most : 10 ^ (i + 1) ≤ 10 ^ 18
+  pub said : numberFrom v (drop i p) ≡ numberFrom (v * 10 + (getD p i 0 - 48)) (drop (i + 1) p)
+
+pub said-turn : (p : List ℕ) (i v : ℕ) → every isDigit p ≡ true → length p ≤ 18 → i < length p → v < 10 ^ i → Said p i v
+unfolding numberFrom
+said-turn p i v e l h b =
+    let d = digit-range (getD p i 0) (every-at isDigit p i e h) in
+    record {
+      low = d .0;
+      high = d .1;
+      below = rw (add-one i) (omega (arith, pow-suc 10 i));
+      most = pow-le-pow-right {n = 10} (omega arith) {i = i + 1} {j = 18} (omega arith);
+      said = rw (add-one i, drop-cons p i 0 h);
+    }

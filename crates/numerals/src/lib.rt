@@ -5,12 +5,15 @@ use columns::texts::spaces;
 use flaws::Flaw;
 use flaws::unread_of;
 ghost use mathlib.Core.Path.{_≡_};
+ghost use mathlib.Core.Bool.{true};
 ghost use mathlib.Core.List.{_++_};
 ghost use Prim.Native.Nat.{_+_, _-_, _/_, _^_, _≤_, _<_};
 ghost use lib.ListN.{length, take, drop};
 ghost use lib.IntN.{natAbs};
+ghost use Rattle.columns.specs.Sets.{isDigit};
+ghost use Rattle.columns.specs.Texts.{every};
 ghost use Rattle.flaws.specs.Flaws.{letterOf, unread};
-ghost use Rattle.numerals.specs.Numbers.{leading, numberFrom, wholeDigits, wholeOf, amount, withSign, inSign, hasMinus, unsigned, signedOf, spellDigits, spellWhole, wholeFits, spellSigned, signedFits, isNegative, wholeFilled};
+ghost use Rattle.numerals.specs.Numbers.{leading, numberFrom, number, wholeDigits, wholeOf, amount, withSign, inSign, hasMinus, unsigned, signedOf, spellDigits, spellWhole, wholeFits, spellSigned, signedFits, isNegative, wholeFilled};
 
 // A whole number, read from its columns.
 pub enum Whole {
@@ -50,6 +53,20 @@ pub fn digits(t: &[u8], most: usize, v: u64) -> Taken
         count += 1;
     }
     Taken { value, count }
+}
+
+// The number that digits say, where nothing else is there.
+pub fn number_of(p: &[u8]) -> u64
+    requires { ⌜ (length (now p) ≤ 18) × (every isDigit (now p) ≡ true) ⌝ }
+    ensures { λ r. ⌜ r ≡ number (now (p .entry)) ⌝ }
+{
+    let mut value: u64 = 0;
+    let mut i = 0;
+    while i < p.len() {
+        value = value * 10 + ((p[i] - 48) as u64);
+        i += 1;
+    }
+    value
 }
 
 // At least one digit, and digits to the end.
