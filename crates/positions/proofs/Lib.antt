@@ -1,3 +1,4 @@
 pub mod ArcLaws
 pub mod PositionColumn
 pub mod Letters
+pub mod PlainLaws

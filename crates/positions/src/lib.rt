@@ -1,5 +1,6 @@
 // Positions: the coordinates 4C, read and written. Each half has degrees, a letter, minutes and seconds.
 use columns::texts::byte;
+use columns::texts::is_framed;
 use flaws::Flaw;
 use flaws::unread_of;
 use numerals::Whole;
@@ -87,7 +88,7 @@ fn seconds_in(a: Arc) -> u64
 fn is_hemisphere(plus: u8, minus: u8, c: u8) -> bool
     ensures { λ r. ⌜ r ≡ eqb c plus || (eqb c minus || false) ⌝ }
 {
-    if c == plus { true } else { c == minus }
+    (c == plus) | (c == minus)
 }
 
 // Whether one half keeps its rule: minutes and seconds at most 59, and no more degrees in all than the given ones.
@@ -192,10 +193,26 @@ pub fn read_position(s: &[u8]) -> Located
     })
 }
 
+// Whether a position stands in its one spelling, below 180 degrees and 90: it can be read. All columns are asked at once, the last eight with one of the first.
+fn is_plain(s: &[u8]) -> bool
+    ensures { λ r. ⌜ (r ≡ true → positionGood (now (s .entry)) ≡ true) ⌝ }
+{
+    if s.len() != 15 {
+        return false;
+    }
+    let letters = is_hemisphere(b'E', b'W', s[3]) & is_hemisphere(b'N', b'S', s[10]);
+    let east = is_framed(&s[0..8], b"000E0000", b"099W5959")
+        | is_framed(&s[0..8], b"100E0000", b"179W5959");
+    letters & east & is_framed(&s[7..15], b"000N0000", b"989S5959")
+}
+
 // Whether a position can be read.
 pub fn is_position(s: &[u8]) -> bool
     ensures { λ r. ⌜ r ≡ positionGood (now (s .entry)) ⌝ }
 {
+    if is_plain(s) {
+        return true;
+    }
     match read_position(s) {
         Located::Bad(_) => false,
         Located::Filled(_) => true,

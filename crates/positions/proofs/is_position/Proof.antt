@@ -1,4 +1,4 @@
--- `positions::is_position` meets its contract, answer by answer.
+-- `positions::is_position` meets its contract: in its one spelling it can be read, and else answer by answer.
 use mathlib.Core.Path.{_≡_, refl, sym, ap, _∙_}
 use mathlib.Core.Bool.{Bool, true, false, cond}
 use mathlib.Core.List.{List}
@@ -24,6 +24,12 @@ found-good p = by (positionGood p) (positionOf p) (unreadPosition p) where
   by true v wrong = refl
   by false v wrong = refl
 
+is-plain-requires : tie.Need-is-plain-requires
+is-plain-requires c κs = search needs
+
+returns : tie.Need-returns
+returns c = sym (c .before .is-plain .ensures (c .if1 .taken))
+
 read-position-requires : tie.Need-read-position-requires
 read-position-requires c κs = search needs
 
@@ -33,14 +39,22 @@ enum-told c = search needs
 enum-told-2 : tie.Need-enum-told-2
 enum-told-2 c = search needs
 
-returns : tie.Need-returns
-unfolding found
-returns c = sym (ap found (c .enum-told .given .1)) ∙ ap found (c .before .before .read-position .ensures) ∙ found-good _
-
 returns-2 : tie.Need-returns-2
 unfolding found
-returns-2 c = sym (ap found (c .enum-told2 .given .1)) ∙ ap found (c .before .before .read-position .ensures) ∙ found-good _
+returns-2 c = sym (ap found (c .enum-told .given .1)) ∙ ap found (c .before .before .read-position .ensures) ∙ found-good _
+
+returns-3 : tie.Need-returns-3
+unfolding found
+returns-3 c = sym (ap found (c .enum-told2 .given .1)) ∙ ap found (c .before .before .read-position .ensures) ∙ found-good _
 
 pub is-position-spec : {M : Type 1} → statement M
 is-position-spec =
-    tie.close (tie.spec read-position-requires enum-told enum-told-2 returns returns-2)
+    tie.close
+    (tie.spec
+    is-plain-requires
+    returns
+    read-position-requires
+    enum-told
+    enum-told-2
+    returns-2
+    returns-3)
