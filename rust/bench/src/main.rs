@@ -45,7 +45,8 @@ fn main() {
     println!("{:45} {:>12} {:>12} {:>15}", "call", "verified", "peer", "verified : peer");
     let sizes = SIZES.map(measured);
     let [small, _, full] = &sizes;
-    row("station code, stations that hold", station_code(&samples::stations()));
+    row("station code, own spelling", station_code(&samples::stations()));
+    row("station code, loose spellings", station_code(&samples::loose_stations()));
     row("station code, one field broken", station_code(&samples::broken_stations()));
     row("second judge, stations that hold", station_second(&samples::stations()));
     row("second judge, one field broken", station_second(&samples::broken_stations()));

@@ -11,6 +11,11 @@ pub fn stations() -> Vec<Record> {
     (0..STATIONS).map(|index| written(&station(index as i64))).collect()
 }
 
+/// The same stations in other spellings, each accepted: zeros in front left out or spaces, short decimals, and signs.
+pub fn loose_stations() -> Vec<Record> {
+    stations().into_iter().enumerate().map(loosened).collect()
+}
+
 /// The lines of these stations.
 pub fn lines() -> Vec<Vec<u8>> {
     (0..STATIONS).map(|index| listed(&station(index as i64))).collect()
@@ -80,6 +85,45 @@ pub fn referenced(station: &Record, reference: [u8; 15]) -> Record {
     let mut record = *station;
     record[204..].copy_from_slice(&reference);
     record
+}
+
+/// First column and length of the whole numbers of 4C, of 4D and of 9Y.
+const WHOLE_NUMBERS: [[usize; 2]; 8] =
+    [[52, 3], [56, 2], [58, 2], [60, 2], [63, 2], [65, 2], [67, 5], [108, 4]];
+
+/// The codes of the fields that are decimals, and which of them may have a sign.
+const DECIMALS: [(usize, bool); 6] =
+    [(1, false), (15, true), (17, false), (18, true), (20, false), (24, false)];
+
+fn loosened((index, mut record): (usize, Record)) -> Record {
+    for [first, length] in WHOLE_NUMBERS {
+        let (_, before_last) = record[first - 1..][..length].split_last_mut().expect("columns");
+        before_last.iter_mut().take_while(|digit| **digit == b'0').for_each(|zero| *zero = b' ');
+    }
+    let [height, _] = peer::STATION_FIELDS[12];
+    record[height - 1] = if index % 2 == 0 { b'+' } else { b' ' };
+    for (code, signed) in DECIMALS {
+        let [first, length] = peer::STATION_FIELDS[code - 1];
+        let field = &mut record[first - 1..][..length];
+        let text = std::str::from_utf8(field).expect("a decimal").trim();
+        let short = short_decimal(text, signed);
+        let front = index % (length - short.len() + 1);
+        field.fill(b' ');
+        field[front..][..short.len()].copy_from_slice(short.as_bytes());
+    }
+    record
+}
+
+/// A decimal with no zero in front, at least one digit behind its point, and a sign where one may stand.
+fn short_decimal(text: &str, signed: bool) -> String {
+    let (sign, magnitude) = match text.strip_prefix('-') {
+        Some(magnitude) => ("-", magnitude),
+        None if signed => ("+", text),
+        None => ("", text),
+    };
+    let digits = magnitude.trim_matches('0');
+    let last = if digits.ends_with('.') { "0" } else { "" };
+    [sign, digits, last].concat()
 }
 
 fn header(count: i64) -> Record {
