@@ -46,16 +46,28 @@ fn channel_code(rec: &[u8]) -> u8
     requires { ⌜ length (now rec) ≡ 219 ⌝ }
     ensures { λ r. ⌜ r ≡ firstBroken 1 (channelFields (fieldsOf (now (rec .entry)))) ⌝ }
 {
-    let rules = [
-        is_amount(&rec[0..11]),
-        is_unit(&rec[0..11], &rec[11..12]),
-        is_category(rec[12]),
-        is_class(&rec[13..15]),
-        is_service(&rec[15..17]),
-        is_users(&rec[17..19]),
-        is_carrier(rec[19]),
-    ];
-    first_broken(&rules, 1)
+    if !is_amount(&rec[0..11]) {
+        return 1;
+    }
+    if !is_unit(&rec[0..11], &rec[11..12]) {
+        return 2;
+    }
+    if !is_category(rec[12]) {
+        return 3;
+    }
+    if !is_class(&rec[13..15]) {
+        return 4;
+    }
+    if !is_service(&rec[15..17]) {
+        return 5;
+    }
+    if !is_users(&rec[17..19]) {
+        return 6;
+    }
+    if !is_carrier(rec[19]) {
+        return 7;
+    }
+    0
 }
 
 // Rules 8 to 13.
@@ -63,15 +75,25 @@ fn site_code(rec: &[u8]) -> u8
     requires { ⌜ length (now rec) ≡ 219 ⌝ }
     ensures { λ r. ⌜ r ≡ firstBroken 8 (siteFields (fieldsOf (now (rec .entry)))) ⌝ }
 {
-    let rules = [
-        is_day(&rec[20..28]),
-        is_station_name(&rec[28..48]),
-        is_country(&rec[48..51]),
-        is_position(&rec[51..66]),
-        is_whole_filled(&rec[66..71]),
-        is_height(&rec[71..75]),
-    ];
-    first_broken(&rules, 8)
+    if !is_day(&rec[20..28]) {
+        return 8;
+    }
+    if !is_station_name(&rec[28..48]) {
+        return 9;
+    }
+    if !is_country(&rec[48..51]) {
+        return 10;
+    }
+    if !is_position(&rec[51..66]) {
+        return 11;
+    }
+    if !is_whole_filled(&rec[66..71]) {
+        return 12;
+    }
+    if !is_height(&rec[71..75]) {
+        return 13;
+    }
+    0
 }
 
 // Rules 14 to 18.
@@ -79,14 +101,22 @@ fn emission_code(rec: &[u8]) -> u8
     requires { ⌜ length (now rec) ≡ 219 ⌝ }
     ensures { λ r. ⌜ r ≡ firstBroken 14 (emissionFields (fieldsOf (now (rec .entry)))) ⌝ }
 {
-    let rules = [
-        is_emission(&rec[75..84]),
-        is_tenths(Format::Power, &rec[84..90]),
-        is_basis(rec[90]),
-        is_tenths(Format::Azimuth, &rec[91..96]),
-        is_tenths(Format::Elevation, &rec[96..101]),
-    ];
-    first_broken(&rules, 14)
+    if !is_emission(&rec[75..84]) {
+        return 14;
+    }
+    if !is_tenths(Format::Power, &rec[84..90]) {
+        return 15;
+    }
+    if !is_basis(rec[90]) {
+        return 16;
+    }
+    if !is_tenths(Format::Azimuth, &rec[91..96]) {
+        return 17;
+    }
+    if !is_tenths(Format::Elevation, &rec[96..101]) {
+        return 18;
+    }
+    0
 }
 
 // Rules 19 to 23.
@@ -94,14 +124,22 @@ fn antenna_code(rec: &[u8]) -> u8
     requires { ⌜ length (now rec) ≡ 219 ⌝ }
     ensures { λ r. ⌜ r ≡ firstBroken 19 (antennaFields (fieldsOf (now (rec .entry)))) ⌝ }
 {
-    let rules = [
-        is_polarisation(&rec[101..103]),
-        is_tenths(Format::Gain, &rec[103..107]),
-        is_whole_filled(&rec[107..111]),
-        is_antenna(&rec[111..118]),
-        is_antenna(&rec[118..125]),
-    ];
-    first_broken(&rules, 19)
+    if !is_polarisation(&rec[101..103]) {
+        return 19;
+    }
+    if !is_tenths(Format::Gain, &rec[103..107]) {
+        return 20;
+    }
+    if !is_whole_filled(&rec[107..111]) {
+        return 21;
+    }
+    if !is_antenna(&rec[111..118]) {
+        return 22;
+    }
+    if !is_antenna(&rec[118..125]) {
+        return 23;
+    }
+    0
 }
 
 // Rules 24 to 30.
@@ -109,16 +147,28 @@ fn coordination_code(rec: &[u8]) -> u8
     requires { ⌜ length (now rec) ≡ 219 ⌝ }
     ensures { λ r. ⌜ r ≡ firstBroken 24 (coordinationFields (fieldsOf (now (rec .entry)))) ⌝ }
 {
-    let rules = [
-        is_amount(&rec[125..136]),
-        is_unit(&rec[125..136], &rec[136..137]),
-        is_remarks(&rec[137..187]),
-        is_status(rec[187]),
-        is_day(&rec[188..196]),
-        is_day(&rec[196..204]),
-        is_reference(&rec[204..219]),
-    ];
-    first_broken(&rules, 24)
+    if !is_amount(&rec[125..136]) {
+        return 24;
+    }
+    if !is_unit(&rec[125..136], &rec[136..137]) {
+        return 25;
+    }
+    if !is_remarks(&rec[137..187]) {
+        return 26;
+    }
+    if !is_status(rec[187]) {
+        return 27;
+    }
+    if !is_day(&rec[188..196]) {
+        return 28;
+    }
+    if !is_day(&rec[196..204]) {
+        return 29;
+    }
+    if !is_reference(&rec[204..219]) {
+        return 30;
+    }
+    0
 }
 
 // Rules 1 to 30, group after group.
