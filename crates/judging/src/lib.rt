@@ -3,7 +3,7 @@ use basics::Outcome;
 use basics::outcomes::judged;
 use basics::rules::first_broken;
 use columns::texts::equal;
-use columns::texts::is_blank;
+use columns::texts::is_blank_rest;
 use days::dates::is_day;
 use distances::is_height;
 use distances::is_whole_filled;
@@ -36,6 +36,7 @@ ghost use mathlib.Core.Bool.{not};
 ghost use Rattle.columns.specs.Texts.{blank};
 ghost use Rattle.basics.specs.Rules.{All, firstBroken};
 ghost use Rattle.station.specs.Places.{fieldsOf};
+ghost use Rattle.station.specs.Between.{roundAntenna, never};
 ghost use Rattle.station.specs.Groups.{firstBetween, lastBetween, channelFields, siteFields, emissionFields, antennaFields, coordinationFields};
 ghost use Rattle.station.specs.Codes.{valueOf, stationCode};
 ghost use Rattle.station.specs.Rules.{fieldRules};
@@ -199,7 +200,28 @@ fn field_code(rec: &[u8]) -> u8
 fn is_filled(s: &[u8]) -> bool
     ensures { λ r. ⌜ r ≡ not (blank (now (s .entry))) ⌝ }
 {
-    !is_blank(s)
+    !is_blank_rest(s)
+}
+
+// A field is filled where x holds; else it is not looked at.
+fn filled_where(x: bool, s: &[u8]) -> bool
+    ensures { λ r. ⌜ r ≡ never x (blank (now (s .entry))) ⌝ }
+{
+    if x { is_filled(s) } else { true }
+}
+
+// A field is blank where x holds; else it is not looked at.
+fn blank_where(x: bool, s: &[u8]) -> bool
+    ensures { λ r. ⌜ r ≡ never x (not (blank (now (s .entry)))) ⌝ }
+{
+    if x { is_blank_rest(s) } else { true }
+}
+
+// A type of antenna is the one of no direction where x holds; else it is not looked at.
+fn round_where(x: bool, s: &[u8]) -> bool
+    ensures { λ r. ⌜ r ≡ never x (not (roundAntenna (now (s .entry)))) ⌝ }
+{
+    if x { is_round(s) } else { true }
 }
 
 // Rules 31 to 34, where 1 to 30 hold.
@@ -207,14 +229,14 @@ fn first_between(rec: &[u8]) -> u8
     requires { ⌜ (length (now rec) ≡ 219) × All (fieldRules (fieldsOf (now rec))) ⌝ }
     ensures { λ r. ⌜ r ≡ firstBroken 31 (firstBetween (valueOf (now (rec .entry)))) ⌝ }
 {
-    let silent = is_blank(&rec[0..11]);
+    let silent = is_blank_rest(&rec[0..11]);
     let mobile = rec[13] == b'M';
     let radius = read_radius(&rec[66..71]);
     let rules = [
-        never_both(silent, is_blank(&rec[125..136])),
-        never_both(silent, is_filled(&rec[84..90])),
+        filled_where(silent, &rec[125..136]),
+        blank_where(silent, &rec[84..90]),
         never_both(!mobile, radius.0 != 0),
-        never_both(mobile, is_filled(&rec[91..96])),
+        blank_where(mobile, &rec[91..96]),
     ];
     first_broken(&rules, 31)
 }
@@ -227,10 +249,10 @@ fn last_between(rec: &[u8]) -> u8
     let mobile = rec[13] == b'M';
     let repeater = equal(b"FL", &rec[13..15]);
     let rules = [
-        never_both(is_blank(&rec[91..96]), !is_round(&rec[111..118])),
-        never_both(is_blank(&rec[96..101]), !is_round(&rec[118..125])),
-        never_both(mobile, is_filled(&rec[71..75])),
-        never_both(is_filled(&rec[125..136]), is_blank(&rec[103..107])),
+        round_where(is_blank_rest(&rec[91..96]), &rec[111..118]),
+        round_where(is_blank_rest(&rec[96..101]), &rec[118..125]),
+        blank_where(mobile, &rec[71..75]),
+        filled_where(is_filled(&rec[125..136]), &rec[103..107]),
         never_both(repeater, !is_repeater_name(&rec[28..48])),
     ];
     first_broken(&rules, 35)

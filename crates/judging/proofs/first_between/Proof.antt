@@ -20,17 +20,17 @@ use borrow.Author.Needs.{needs}
 use Rattle.judging.proofs.first_between.Statement.{statement}
 use Rattle.judging.proofs.first_between.Tie as tie
 
-sub-is-blank : tie.Need-sub-is-blank
-sub-is-blank c = search needs
+sub-is-blank-rest : tie.Need-sub-is-blank-rest
+sub-is-blank-rest c = search needs
 
-part-is-blank-start : tie.Need-part-is-blank-start
-part-is-blank-start c = search needs
+part-is-blank-rest-start : tie.Need-part-is-blank-rest-start
+part-is-blank-rest-start c = search needs
 
-part-is-blank-end : tie.Need-part-is-blank-end
-part-is-blank-end c = search needs
+part-is-blank-rest-end : tie.Need-part-is-blank-rest-end
+part-is-blank-rest-end c = search needs
 
-is-blank-requires : tie.Need-is-blank-requires
-is-blank-requires c κs = search needs
+is-blank-rest-requires : tie.Need-is-blank-rest-requires
+is-blank-rest-requires c κs = search needs
 
 shared-slice-read-mobile : tie.Need-shared-slice-read-mobile
 shared-slice-read-mobile c = search needs
@@ -47,53 +47,44 @@ part-read-radius-end c = search needs
 read-radius-requires : tie.Need-read-radius-requires
 read-radius-requires c κs = search needs
 
-sub-is-blank-2 : tie.Need-sub-is-blank-2
-sub-is-blank-2 c = search needs
+sub-filled-where : tie.Need-sub-filled-where
+sub-filled-where c = search needs
 
-part-is-blank-start-2 : tie.Need-part-is-blank-start-2
-part-is-blank-start-2 c = search needs
+part-filled-where-start : tie.Need-part-filled-where-start
+part-filled-where-start c = search needs
 
-part-is-blank-end-2 : tie.Need-part-is-blank-end-2
-part-is-blank-end-2 c = search needs
+part-filled-where-end : tie.Need-part-filled-where-end
+part-filled-where-end c = search needs
 
-is-blank-requires-2 : tie.Need-is-blank-requires-2
-is-blank-requires-2 c κs = search needs
+filled-where-requires : tie.Need-filled-where-requires
+filled-where-requires c κs = search needs
+
+sub-blank-where : tie.Need-sub-blank-where
+sub-blank-where c = search needs
+
+part-blank-where-start : tie.Need-part-blank-where-start
+part-blank-where-start c = search needs
+
+part-blank-where-end : tie.Need-part-blank-where-end
+part-blank-where-end c = search needs
+
+blank-where-requires : tie.Need-blank-where-requires
+blank-where-requires c κs = search needs
 
 never-both-requires : tie.Need-never-both-requires
 never-both-requires c κs = search needs
 
-sub-is-filled : tie.Need-sub-is-filled
-sub-is-filled c = search needs
+sub-blank-where-2 : tie.Need-sub-blank-where-2
+sub-blank-where-2 c = search needs
 
-part-is-filled-start : tie.Need-part-is-filled-start
-part-is-filled-start c = search needs
+part-blank-where-start-2 : tie.Need-part-blank-where-start-2
+part-blank-where-start-2 c = search needs
 
-part-is-filled-end : tie.Need-part-is-filled-end
-part-is-filled-end c = search needs
+part-blank-where-end-2 : tie.Need-part-blank-where-end-2
+part-blank-where-end-2 c = search needs
 
-is-filled-requires : tie.Need-is-filled-requires
-is-filled-requires c κs = search needs
-
-never-both-requires-2 : tie.Need-never-both-requires-2
-never-both-requires-2 c κs = search needs
-
-never-both-requires-3 : tie.Need-never-both-requires-3
-never-both-requires-3 c κs = search needs
-
-sub-is-filled-2 : tie.Need-sub-is-filled-2
-sub-is-filled-2 c = search needs
-
-part-is-filled-start-2 : tie.Need-part-is-filled-start-2
-part-is-filled-start-2 c = search needs
-
-part-is-filled-end-2 : tie.Need-part-is-filled-end-2
-part-is-filled-end-2 c = search needs
-
-is-filled-requires-2 : tie.Need-is-filled-requires-2
-is-filled-requires-2 c κs = search needs
-
-never-both-requires-4 : tie.Need-never-both-requires-4
-never-both-requires-4 c κs = search needs
+blank-where-requires-2 : tie.Need-blank-where-requires-2
+blank-where-requires-2 c κs = search needs
 
 slice-aggregate-first-broken : tie.Need-slice-aggregate-first-broken
 slice-aggregate-first-broken c = search needs
@@ -105,25 +96,21 @@ returns : tie.Need-returns
 unfolding firstBetween valueOf stationOf fieldsOf fieldRules channelFields siteFields emissionFields antennaFields coordinationFields
 returns c =
     let n4 = c .before .before in
-    let n3 = n4 .before .before .before in
+    let n3 = n4 .before .before in
     let n2 = n3 .before .before in
-    let n1 = n2 .before .before .before in
-    let b2 = n1 .before in
-    let rr = b2 .before .before in
+    let n1 = n2 .before .before in
+    let rr = n1 .before .before in
     let b1 = rr .before .before .before in
     let s = b1 .before .before .before in
     let r = now (s .args .rec) in
     let holds : (k : ℕ) → getD (fieldRules (fieldsOf r)) (k - 1) true ≡ true = rule (fieldRules (fieldsOf r)) (s .pre .1) in
     c .first-broken .ensures
     ∙ rw (
-      n1 .never-both .ensures,
-      n2 .never-both2 .ensures,
-      n3 .never-both3 .ensures,
-      n4 .never-both4 .ensures,
-      b1 .is-blank .ensures,
-      b2 .is-blank2 .ensures,
-      n2 .before .is-filled .ensures,
-      n4 .before .is-filled2 .ensures,
+      n1 .filled-where .ensures,
+      n2 .blank-where .ensures,
+      n3 .never-both .ensures,
+      n4 .blank-where2 .ensures,
+      b1 .is-blank-rest .ensures,
       rr .read-radius .ensures,
       frequency-given (take 11 r) (take 1 (drop 11 r)) (holds 1),
       frequency-given (take 11 (drop 125 r)) (take 1 (drop 136 r)) (holds 24),
@@ -138,31 +125,28 @@ pub first-between-spec : {M : Type 1} → statement M
 first-between-spec =
     tie.close
     (tie.spec
-    sub-is-blank
-    part-is-blank-start
-    part-is-blank-end
-    is-blank-requires
+    sub-is-blank-rest
+    part-is-blank-rest-start
+    part-is-blank-rest-end
+    is-blank-rest-requires
     shared-slice-read-mobile
     sub-read-radius
     part-read-radius-start
     part-read-radius-end
     read-radius-requires
-    sub-is-blank-2
-    part-is-blank-start-2
-    part-is-blank-end-2
-    is-blank-requires-2
+    sub-filled-where
+    part-filled-where-start
+    part-filled-where-end
+    filled-where-requires
+    sub-blank-where
+    part-blank-where-start
+    part-blank-where-end
+    blank-where-requires
     never-both-requires
-    sub-is-filled
-    part-is-filled-start
-    part-is-filled-end
-    is-filled-requires
-    never-both-requires-2
-    never-both-requires-3
-    sub-is-filled-2
-    part-is-filled-start-2
-    part-is-filled-end-2
-    is-filled-requires-2
-    never-both-requires-4
+    sub-blank-where-2
+    part-blank-where-start-2
+    part-blank-where-end-2
+    blank-where-requires-2
     slice-aggregate-first-broken
     first-broken-requires
     returns)

@@ -38,59 +38,65 @@ part-equal-end c = search needs
 equal-requires : tie.Need-equal-requires
 equal-requires c κs = search needs
 
-sub-is-blank : tie.Need-sub-is-blank
-sub-is-blank c = search needs
+sub-is-blank-rest : tie.Need-sub-is-blank-rest
+sub-is-blank-rest c = search needs
 
-part-is-blank-start : tie.Need-part-is-blank-start
-part-is-blank-start c = search needs
+part-is-blank-rest-start : tie.Need-part-is-blank-rest-start
+part-is-blank-rest-start c = search needs
 
-part-is-blank-end : tie.Need-part-is-blank-end
-part-is-blank-end c = search needs
+part-is-blank-rest-end : tie.Need-part-is-blank-rest-end
+part-is-blank-rest-end c = search needs
 
-is-blank-requires : tie.Need-is-blank-requires
-is-blank-requires c κs = search needs
+is-blank-rest-requires : tie.Need-is-blank-rest-requires
+is-blank-rest-requires c κs = search needs
 
-sub-is-round : tie.Need-sub-is-round
-sub-is-round c = search needs
+sub-round-where : tie.Need-sub-round-where
+sub-round-where c = search needs
 
-part-is-round-start : tie.Need-part-is-round-start
-part-is-round-start c = search needs
+part-round-where-start : tie.Need-part-round-where-start
+part-round-where-start c = search needs
 
-part-is-round-end : tie.Need-part-is-round-end
-part-is-round-end c = search needs
+part-round-where-end : tie.Need-part-round-where-end
+part-round-where-end c = search needs
 
-is-round-requires : tie.Need-is-round-requires
-is-round-requires c κs = search needs
+round-where-requires : tie.Need-round-where-requires
+round-where-requires c κs = search needs
 
-never-both-requires : tie.Need-never-both-requires
-never-both-requires c κs = search needs
+sub-is-blank-rest-2 : tie.Need-sub-is-blank-rest-2
+sub-is-blank-rest-2 c = search needs
 
-sub-is-blank-2 : tie.Need-sub-is-blank-2
-sub-is-blank-2 c = search needs
+part-is-blank-rest-start-2 : tie.Need-part-is-blank-rest-start-2
+part-is-blank-rest-start-2 c = search needs
 
-part-is-blank-start-2 : tie.Need-part-is-blank-start-2
-part-is-blank-start-2 c = search needs
+part-is-blank-rest-end-2 : tie.Need-part-is-blank-rest-end-2
+part-is-blank-rest-end-2 c = search needs
 
-part-is-blank-end-2 : tie.Need-part-is-blank-end-2
-part-is-blank-end-2 c = search needs
+is-blank-rest-requires-2 : tie.Need-is-blank-rest-requires-2
+is-blank-rest-requires-2 c κs = search needs
 
-is-blank-requires-2 : tie.Need-is-blank-requires-2
-is-blank-requires-2 c κs = search needs
+sub-round-where-2 : tie.Need-sub-round-where-2
+sub-round-where-2 c = search needs
 
-sub-is-round-2 : tie.Need-sub-is-round-2
-sub-is-round-2 c = search needs
+part-round-where-start-2 : tie.Need-part-round-where-start-2
+part-round-where-start-2 c = search needs
 
-part-is-round-start-2 : tie.Need-part-is-round-start-2
-part-is-round-start-2 c = search needs
+part-round-where-end-2 : tie.Need-part-round-where-end-2
+part-round-where-end-2 c = search needs
 
-part-is-round-end-2 : tie.Need-part-is-round-end-2
-part-is-round-end-2 c = search needs
+round-where-requires-2 : tie.Need-round-where-requires-2
+round-where-requires-2 c κs = search needs
 
-is-round-requires-2 : tie.Need-is-round-requires-2
-is-round-requires-2 c κs = search needs
+sub-blank-where : tie.Need-sub-blank-where
+sub-blank-where c = search needs
 
-never-both-requires-2 : tie.Need-never-both-requires-2
-never-both-requires-2 c κs = search needs
+part-blank-where-start : tie.Need-part-blank-where-start
+part-blank-where-start c = search needs
+
+part-blank-where-end : tie.Need-part-blank-where-end
+part-blank-where-end c = search needs
+
+blank-where-requires : tie.Need-blank-where-requires
+blank-where-requires c κs = search needs
 
 sub-is-filled : tie.Need-sub-is-filled
 sub-is-filled c = search needs
@@ -104,35 +110,17 @@ part-is-filled-end c = search needs
 is-filled-requires : tie.Need-is-filled-requires
 is-filled-requires c κs = search needs
 
-never-both-requires-3 : tie.Need-never-both-requires-3
-never-both-requires-3 c κs = search needs
+sub-filled-where : tie.Need-sub-filled-where
+sub-filled-where c = search needs
 
-sub-is-filled-2 : tie.Need-sub-is-filled-2
-sub-is-filled-2 c = search needs
+part-filled-where-start : tie.Need-part-filled-where-start
+part-filled-where-start c = search needs
 
-part-is-filled-start-2 : tie.Need-part-is-filled-start-2
-part-is-filled-start-2 c = search needs
+part-filled-where-end : tie.Need-part-filled-where-end
+part-filled-where-end c = search needs
 
-part-is-filled-end-2 : tie.Need-part-is-filled-end-2
-part-is-filled-end-2 c = search needs
-
-is-filled-requires-2 : tie.Need-is-filled-requires-2
-is-filled-requires-2 c κs = search needs
-
-sub-is-blank-3 : tie.Need-sub-is-blank-3
-sub-is-blank-3 c = search needs
-
-part-is-blank-start-3 : tie.Need-part-is-blank-start-3
-part-is-blank-start-3 c = search needs
-
-part-is-blank-end-3 : tie.Need-part-is-blank-end-3
-part-is-blank-end-3 c = search needs
-
-is-blank-requires-3 : tie.Need-is-blank-requires-3
-is-blank-requires-3 c κs = search needs
-
-never-both-requires-4 : tie.Need-never-both-requires-4
-never-both-requires-4 c κs = search needs
+filled-where-requires : tie.Need-filled-where-requires
+filled-where-requires c κs = search needs
 
 sub-is-repeater-name : tie.Need-sub-is-repeater-name
 sub-is-repeater-name c = search needs
@@ -146,8 +134,8 @@ part-is-repeater-name-end c = search needs
 is-repeater-name-requires : tie.Need-is-repeater-name-requires
 is-repeater-name-requires c κs = search needs
 
-never-both-requires-5 : tie.Need-never-both-requires-5
-never-both-requires-5 c κs = search needs
+never-both-requires : tie.Need-never-both-requires
+never-both-requires c κs = search needs
 
 slice-aggregate-first-broken : tie.Need-slice-aggregate-first-broken
 slice-aggregate-first-broken c = search needs
@@ -160,10 +148,10 @@ unfolding lastBetween valueOf stationOf fieldsOf fieldRules channelFields siteFi
 returns c =
     let n5 = c .before .before in
     let n4 = n5 .before .before .before in
-    let n3 = n4 .before .before .before .before .before in
-    let n2 = n3 .before .before .before in
-    let n1 = n2 .before .before .before .before .before in
-    let s = n1 .before .before .before .before .before .before .before .before .before .before in
+    let n3 = n4 .before .before .before .before in
+    let n2 = n3 .before .before in
+    let n1 = n2 .before .before .before .before in
+    let s = n1 .before .before .before .before .before .before .before .before .before in
     let r = now (s .args .rec) in
     let azimuth = take 5 (drop 91 r) in
     let elevation = take 5 (drop 96 r) in
@@ -171,9 +159,9 @@ returns c =
     let receive = take 11 (drop 125 r) in
     let holds : (k : ℕ) → getD (fieldRules (fieldsOf r)) (k - 1) true ≡ true = rule (fieldRules (fieldsOf r)) (s .pre .1) in
     c .first-broken .ensures
-    ∙ rw (n1 .never-both .ensures, n2 .never-both2 .ensures, n3 .never-both3 .ensures, n4 .never-both4 .ensures, n5 .never-both5 .ensures)
-    (rw (n1 .before .before .before .before .before .equal .ensures, n1 .before .is-round .ensures, n1 .before .before .before .is-blank .ensures, n2 .before .is-round2 .ensures, n2 .before .before .before .is-blank2 .ensures)
-    (rw (n3 .before .is-filled .ensures, n4 .before .is-blank3 .ensures, n4 .before .before .before .is-filled2 .ensures, n5 .before .is-repeater-name .ensures)
+    ∙ rw (n1 .round-where .ensures, n2 .round-where2 .ensures, n3 .blank-where .ensures, n4 .filled-where .ensures, n5 .never-both .ensures)
+    (rw (n1 .before .before .is-blank-rest .ensures, n2 .before .before .is-blank-rest2 .ensures, n1 .before .before .before .before .equal .ensures)
+    (rw (n4 .before .before .is-filled .ensures, n5 .before .is-repeater-name .ensures)
     (rw (tenths-given 3 1 false ((meantAt 17) .range) azimuth (holds 17), tenths-given 2 1 true ((meantAt 18) .range) elevation (holds 18), tenths-given 2 1 false anyNumber gain (holds 20))
     (rw (height-given (take 4 (drop 71 r)) (holds 13), frequency-given receive (take 1 (drop 136 r)) (holds 24), head-field 2 13 r (omega arith))
     (rw (Bool·not-not (blank azimuth), Bool·not-not (blank elevation), Bool·not-not (blank gain)))))))
@@ -188,43 +176,39 @@ last-between-spec =
     part-equal-start
     part-equal-end
     equal-requires
-    sub-is-blank
-    part-is-blank-start
-    part-is-blank-end
-    is-blank-requires
-    sub-is-round
-    part-is-round-start
-    part-is-round-end
-    is-round-requires
-    never-both-requires
-    sub-is-blank-2
-    part-is-blank-start-2
-    part-is-blank-end-2
-    is-blank-requires-2
-    sub-is-round-2
-    part-is-round-start-2
-    part-is-round-end-2
-    is-round-requires-2
-    never-both-requires-2
+    sub-is-blank-rest
+    part-is-blank-rest-start
+    part-is-blank-rest-end
+    is-blank-rest-requires
+    sub-round-where
+    part-round-where-start
+    part-round-where-end
+    round-where-requires
+    sub-is-blank-rest-2
+    part-is-blank-rest-start-2
+    part-is-blank-rest-end-2
+    is-blank-rest-requires-2
+    sub-round-where-2
+    part-round-where-start-2
+    part-round-where-end-2
+    round-where-requires-2
+    sub-blank-where
+    part-blank-where-start
+    part-blank-where-end
+    blank-where-requires
     sub-is-filled
     part-is-filled-start
     part-is-filled-end
     is-filled-requires
-    never-both-requires-3
-    sub-is-filled-2
-    part-is-filled-start-2
-    part-is-filled-end-2
-    is-filled-requires-2
-    sub-is-blank-3
-    part-is-blank-start-3
-    part-is-blank-end-3
-    is-blank-requires-3
-    never-both-requires-4
+    sub-filled-where
+    part-filled-where-start
+    part-filled-where-end
+    filled-where-requires
     sub-is-repeater-name
     part-is-repeater-name-start
     part-is-repeater-name-end
     is-repeater-name-requires
-    never-both-requires-5
+    never-both-requires
     slice-aggregate-first-broken
     first-broken-requires
     returns)
