@@ -158,6 +158,25 @@ every-at test [] i e h = absurd (omega arith)
 every-at test (c ∷ p) zero e h = and-split (test c) (every test p) e .0
 every-at test (c ∷ p) (suc i) e h = every-at test p i (and-split (test c) (every test p) e .1) (omega arith)
 
+-- two parts that meet or lap over are all of a text
+every-join : (test : ℕ → Bool) (a b : ℕ) (p : List ℕ) → b ≤ a → every test (take a p) ≡ true → every test (drop b p) ≡ true → every test p ≡ true
+unfolding every
+every-join test a b [] l e f = refl
+every-join test zero zero (c ∷ p) l e f = f
+every-join test zero (suc b) (c ∷ p) l e f = absurd (omega arith)
+every-join test (suc a) zero (c ∷ p) l e f = f
+every-join test (suc a) (suc b) (c ∷ p) l e f =
+    let h = and-split (test c) (every test (take a p)) e in
+    and-both (test c) (every test p) (h .0) (every-join test a b p (omega arith) (h .1) f)
+
+pub every-parts : (test : ℕ → Bool) (a b : ℕ) (p : List ℕ) → b ≤ a → (every test (take a p) && every test (drop b p)) ≡ every test p
+every-parts test a b p l = by (every test p) (every test (take a p)) (every test (drop b p)) refl refl refl where
+  by : (q x y : Bool) → every test p ≡ q → every test (take a p) ≡ x → every test (drop b p) ≡ y → (x && y) ≡ q
+  by true x y e f g = and-both x y (sym f ∙ every-take test a p e) (sym g ∙ every-drop test b p e)
+  by false true true e f g = sym (every-join test a b p l f g) ∙ e
+  by false true false e f g = refl
+  by false false y e f g = refl
+
 -- k places of one test: k bytes, and each passes
 pub each-replicate : (k : ℕ) (test : ℕ → Bool) (p : List ℕ) → each (replicate k test) p ≡ eqb (length p) k && every test p
 unfolding each every

@@ -33,14 +33,14 @@ pub fn spaces(s: &[u8]) -> usize
     at
 }
 
-// All spaces, asked one after the other: for the few bytes that are left of a field.
-pub fn is_blank_rest(s: &[u8]) -> bool
+// All spaces, asked one after the other: for what is mostly told by its first bytes.
+pub fn is_blank_stepwise(s: &[u8]) -> bool
     ensures { λ r. ⌜ r ≡ blank (now (s .entry)) ⌝ }
 {
     spaces(s) == s.len()
 }
 
-// All spaces, asked of all bytes at once: for a whole field.
+// All spaces, asked of all bytes at once.
 pub fn is_blank(s: &[u8]) -> bool
     ensures { λ r. ⌜ r ≡ blank (now (s .entry)) ⌝ }
 {

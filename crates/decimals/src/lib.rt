@@ -1,6 +1,6 @@
 // Decimals over the digits before the point and behind it, and the sign: read and written.
 use columns::texts::byte;
-use columns::texts::is_blank_rest;
+use columns::texts::is_blank_stepwise;
 use numerals::Whole;
 use numerals::digits;
 use numerals::is_negative;
@@ -37,7 +37,7 @@ fn fraction_of(t: &[u8], b: usize, v: u64) -> Whole
     if n == 0 {
         return Whole::Bad;
     }
-    if !is_blank_rest(&t[n..]) {
+    if !is_blank_stepwise(&t[n..]) {
         return Whole::Bad;
     }
     Whole::Filled(scaled(m, b - n))

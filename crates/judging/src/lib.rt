@@ -3,7 +3,7 @@ use basics::Outcome;
 use basics::outcomes::judged;
 use basics::rules::first_broken;
 use columns::texts::equal;
-use columns::texts::is_blank_rest;
+use columns::texts::is_blank_stepwise;
 use days::dates::is_day;
 use distances::is_height;
 use distances::is_whole_filled;
@@ -200,7 +200,7 @@ fn field_code(rec: &[u8]) -> u8
 fn is_filled(s: &[u8]) -> bool
     ensures { λ r. ⌜ r ≡ not (blank (now (s .entry))) ⌝ }
 {
-    !is_blank_rest(s)
+    !is_blank_stepwise(s)
 }
 
 // A field is filled where x holds; else it is not looked at.
@@ -214,7 +214,7 @@ fn filled_where(x: bool, s: &[u8]) -> bool
 fn blank_where(x: bool, s: &[u8]) -> bool
     ensures { λ r. ⌜ r ≡ never x (not (blank (now (s .entry)))) ⌝ }
 {
-    if x { is_blank_rest(s) } else { true }
+    if x { is_blank_stepwise(s) } else { true }
 }
 
 // A type of antenna is the one of no direction where x holds; else it is not looked at.
@@ -229,7 +229,7 @@ fn first_between(rec: &[u8]) -> u8
     requires { ⌜ (length (now rec) ≡ 219) × All (fieldRules (fieldsOf (now rec))) ⌝ }
     ensures { λ r. ⌜ r ≡ firstBroken 31 (firstBetween (valueOf (now (rec .entry)))) ⌝ }
 {
-    let silent = is_blank_rest(&rec[0..11]);
+    let silent = is_blank_stepwise(&rec[0..11]);
     let mobile = rec[13] == b'M';
     let radius = read_radius(&rec[66..71]);
     let rules = [
@@ -249,8 +249,8 @@ fn last_between(rec: &[u8]) -> u8
     let mobile = rec[13] == b'M';
     let repeater = equal(b"FL", &rec[13..15]);
     let rules = [
-        round_where(is_blank_rest(&rec[91..96]), &rec[111..118]),
-        round_where(is_blank_rest(&rec[96..101]), &rec[118..125]),
+        round_where(is_blank_stepwise(&rec[91..96]), &rec[111..118]),
+        round_where(is_blank_stepwise(&rec[96..101]), &rec[118..125]),
         blank_where(mobile, &rec[71..75]),
         filled_where(is_filled(&rec[125..136]), &rec[103..107]),
         never_both(repeater, !is_repeater_name(&rec[28..48])),

@@ -1,10 +1,10 @@
 // The remarks, 13Z: the technology, the cell, the installation, and a free text.
 use columns::sets::Set;
+use columns::sets::is_hex;
 use columns::texts::all_in;
 use columns::texts::equal;
 use columns::texts::is_blank;
 use columns::texts::is_either;
-use columns::texts::spaces;
 ghost use mathlib.Core.Path.{_≡_};
 ghost use mathlib.Core.List.{[], _∷_};
 ghost use lib.ListN.{length};
@@ -22,12 +22,20 @@ fn is_generation(c: u8) -> bool
     }
 }
 
-// Places 2-10, the cell: spaces, then upper-case hex digits to the end.
+// Places 2-10, the cell: spaces, then upper-case hex digits to the end. So each byte is a hex digit, or a space behind a space.
 fn is_cell(s: &[u8]) -> bool
     ensures { λ r. ⌜ r ≡ cellGood (now (s .entry)) ⌝ }
 {
-    let at = spaces(s);
-    all_in(Set::Hex, &s[at..])
+    let mut all = true;
+    let mut before = b' ';
+    let mut i = 0;
+    while i < s.len() {
+        let c = s[i];
+        all = all & (is_hex(c) | ((c == b' ') & (before == b' ')));
+        before = c;
+        i += 1;
+    }
+    all
 }
 
 // Places 11-12, the class of the installation.
@@ -64,7 +72,7 @@ fn is_installation(s: &[u8]) -> bool
     is_surrounding(s[2])
 }
 
-// 13Z, the remarks: blank, or their four parts.
+// 13Z, the remarks: blank, or their four parts. The 37 bytes of free text are asked in two parts of 32 and 16, which lap over.
 pub fn is_remarks(s: &[u8]) -> bool
     ensures { λ r. ⌜ r ≡ remarksGood (now (s .entry)) ⌝ }
 {
@@ -83,5 +91,5 @@ pub fn is_remarks(s: &[u8]) -> bool
     if !is_installation(&s[10..13]) {
         return false;
     }
-    all_in(Set::Text, &s[13..])
+    all_in(Set::Text, &s[13..45]) & all_in(Set::Text, &s[34..50])
 }

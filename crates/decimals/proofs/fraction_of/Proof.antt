@@ -42,29 +42,29 @@ some c =
     ended-length l ∙ ne-eqb (length l) 0 (λ e. c .if1 .left (c .before .digits .ensures .0 ∙ e))
 
 -- what follows them is as blank as was found
-follows : (c : tie.After-is-blank-rest) →
+follows : (c : tie.After-is-blank-stepwise) →
     let a = c .before .before .before .before .before .args in
-    c .is-blank-rest .result ≡ blank (drop (length (leading (a .b) (now (a .t)))) (now (a .t)))
+    c .is-blank-stepwise .result ≡ blank (drop (length (leading (a .b) (now (a .t)))) (now (a .t)))
 follows c =
     let d = c .before .before .before in
     let t = now (d .before .before .args .t) in
-    c .is-blank-rest .ensures ∙ ap blank (from-on t (d .digits .result .count) ∙ ap (λ (n : ℕ). drop n t) (d .digits .ensures .0))
+    c .is-blank-stepwise .ensures ∙ ap blank (from-on t (d .digits .result .count) ∙ ap (λ (n : ℕ). drop n t) (d .digits .ensures .0))
 
-sub-is-blank-rest : tie.Need-sub-is-blank-rest
-sub-is-blank-rest c = inside c
+sub-is-blank-stepwise : tie.Need-sub-is-blank-stepwise
+sub-is-blank-stepwise c = inside c
 
-part-is-blank-rest-start : tie.Need-part-is-blank-rest-start
-part-is-blank-rest-start c = let h = inside c in search needs
+part-is-blank-stepwise-start : tie.Need-part-is-blank-stepwise-start
+part-is-blank-stepwise-start c = let h = inside c in search needs
 
-part-is-blank-rest-end : tie.Need-part-is-blank-rest-end
-part-is-blank-rest-end c = search needs
+part-is-blank-stepwise-end : tie.Need-part-is-blank-stepwise-end
+part-is-blank-stepwise-end c = search needs
 
-is-blank-rest-requires : tie.Need-is-blank-rest-requires
-is-blank-rest-requires c κs = search needs
+is-blank-stepwise-requires : tie.Need-is-blank-stepwise-requires
+is-blank-stepwise-requires c κs = search needs
 
 returns-2 : tie.Need-returns-2
 unfolding fractionOf
-returns-2 c = rw (some (c .before .before .before), ← follows (c .before), not-true (c .before .is-blank-rest .result) (c .if2 .taken))
+returns-2 c = rw (some (c .before .before .before), ← follows (c .before), not-true (c .before .is-blank-stepwise .result) (c .if2 .taken))
 
 sub-scaled : tie.Need-sub-scaled
 sub-scaled c =
@@ -83,7 +83,7 @@ unfolding fractionOf
 returns-3 c =
     let q = c .before .before in
     let d = q .before .before .before in
-    rw (some (q .before .before), ← follows q, not-false (q .is-blank-rest .result) (c .before .if2 .left))
+    rw (some (q .before .before), ← follows q, not-false (q .is-blank-stepwise .result) (c .before .if2 .left))
     (ap whole.Filled (c .scaled .ensures ∙ rw (d .digits .ensures .0, d .digits .ensures .1)))
 
 pub fraction-of-spec : {M : Type 1} → statement M
@@ -92,10 +92,10 @@ fraction-of-spec =
     (tie.spec
     digits-requires
     returns
-    sub-is-blank-rest
-    part-is-blank-rest-start
-    part-is-blank-rest-end
-    is-blank-rest-requires
+    sub-is-blank-stepwise
+    part-is-blank-stepwise-start
+    part-is-blank-stepwise-end
+    is-blank-stepwise-requires
     returns-2
     sub-scaled
     scaled-requires

@@ -4,14 +4,14 @@ use borrow.Author.Needs.{needs}
 use Rattle.judging.proofs.blank_where.Statement.{statement}
 use Rattle.judging.proofs.blank_where.Tie as tie
 
-is-blank-rest-requires : tie.Need-is-blank-rest-requires
-is-blank-rest-requires c κs = search needs
+is-blank-stepwise-requires : tie.Need-is-blank-stepwise-requires
+is-blank-stepwise-requires c κs = search needs
 
 returns : tie.Need-returns
-returns c = rw (c .before .if1 .taken, Bool·not-not) (c .is-blank-rest .ensures)
+returns c = rw (c .before .if1 .taken, Bool·not-not) (c .is-blank-stepwise .ensures)
 
 returns-2 : tie.Need-returns-2
 returns-2 c = search needs
 
 pub blank-where-spec : {M : Type 1} → statement M
-blank-where-spec = tie.close (tie.spec is-blank-rest-requires returns returns-2)
+blank-where-spec = tie.close (tie.spec is-blank-stepwise-requires returns returns-2)

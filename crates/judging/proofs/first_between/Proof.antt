@@ -20,17 +20,17 @@ use borrow.Author.Needs.{needs}
 use Rattle.judging.proofs.first_between.Statement.{statement}
 use Rattle.judging.proofs.first_between.Tie as tie
 
-sub-is-blank-rest : tie.Need-sub-is-blank-rest
-sub-is-blank-rest c = search needs
+sub-is-blank-stepwise : tie.Need-sub-is-blank-stepwise
+sub-is-blank-stepwise c = search needs
 
-part-is-blank-rest-start : tie.Need-part-is-blank-rest-start
-part-is-blank-rest-start c = search needs
+part-is-blank-stepwise-start : tie.Need-part-is-blank-stepwise-start
+part-is-blank-stepwise-start c = search needs
 
-part-is-blank-rest-end : tie.Need-part-is-blank-rest-end
-part-is-blank-rest-end c = search needs
+part-is-blank-stepwise-end : tie.Need-part-is-blank-stepwise-end
+part-is-blank-stepwise-end c = search needs
 
-is-blank-rest-requires : tie.Need-is-blank-rest-requires
-is-blank-rest-requires c κs = search needs
+is-blank-stepwise-requires : tie.Need-is-blank-stepwise-requires
+is-blank-stepwise-requires c κs = search needs
 
 shared-slice-read-mobile : tie.Need-shared-slice-read-mobile
 shared-slice-read-mobile c = search needs
@@ -110,7 +110,7 @@ returns c =
       n2 .blank-where .ensures,
       n3 .never-both .ensures,
       n4 .blank-where2 .ensures,
-      b1 .is-blank-rest .ensures,
+      b1 .is-blank-stepwise .ensures,
       rr .read-radius .ensures,
       frequency-given (take 11 r) (take 1 (drop 11 r)) (holds 1),
       frequency-given (take 11 (drop 125 r)) (take 1 (drop 136 r)) (holds 24),
@@ -125,10 +125,10 @@ pub first-between-spec : {M : Type 1} → statement M
 first-between-spec =
     tie.close
     (tie.spec
-    sub-is-blank-rest
-    part-is-blank-rest-start
-    part-is-blank-rest-end
-    is-blank-rest-requires
+    sub-is-blank-stepwise
+    part-is-blank-stepwise-start
+    part-is-blank-stepwise-end
+    is-blank-stepwise-requires
     shared-slice-read-mobile
     sub-read-radius
     part-read-radius-start

@@ -5,11 +5,11 @@ use borrow.Author.Needs.{needs}
 use Rattle.judging.proofs.is_filled.Statement.{statement}
 use Rattle.judging.proofs.is_filled.Tie as tie
 
-is-blank-rest-requires : tie.Need-is-blank-rest-requires
-is-blank-rest-requires c κs = search needs
+is-blank-stepwise-requires : tie.Need-is-blank-stepwise-requires
+is-blank-stepwise-requires c κs = search needs
 
 returns : tie.Need-returns
-returns c = ap not (c .is-blank-rest .ensures)
+returns c = ap not (c .is-blank-stepwise .ensures)
 
 pub is-filled-spec : {M : Type 1} → statement M
-is-filled-spec = tie.close (tie.spec is-blank-rest-requires returns)
+is-filled-spec = tie.close (tie.spec is-blank-stepwise-requires returns)

@@ -38,17 +38,17 @@ part-equal-end c = search needs
 equal-requires : tie.Need-equal-requires
 equal-requires c κs = search needs
 
-sub-is-blank-rest : tie.Need-sub-is-blank-rest
-sub-is-blank-rest c = search needs
+sub-is-blank-stepwise : tie.Need-sub-is-blank-stepwise
+sub-is-blank-stepwise c = search needs
 
-part-is-blank-rest-start : tie.Need-part-is-blank-rest-start
-part-is-blank-rest-start c = search needs
+part-is-blank-stepwise-start : tie.Need-part-is-blank-stepwise-start
+part-is-blank-stepwise-start c = search needs
 
-part-is-blank-rest-end : tie.Need-part-is-blank-rest-end
-part-is-blank-rest-end c = search needs
+part-is-blank-stepwise-end : tie.Need-part-is-blank-stepwise-end
+part-is-blank-stepwise-end c = search needs
 
-is-blank-rest-requires : tie.Need-is-blank-rest-requires
-is-blank-rest-requires c κs = search needs
+is-blank-stepwise-requires : tie.Need-is-blank-stepwise-requires
+is-blank-stepwise-requires c κs = search needs
 
 sub-round-where : tie.Need-sub-round-where
 sub-round-where c = search needs
@@ -62,17 +62,17 @@ part-round-where-end c = search needs
 round-where-requires : tie.Need-round-where-requires
 round-where-requires c κs = search needs
 
-sub-is-blank-rest-2 : tie.Need-sub-is-blank-rest-2
-sub-is-blank-rest-2 c = search needs
+sub-is-blank-stepwise-2 : tie.Need-sub-is-blank-stepwise-2
+sub-is-blank-stepwise-2 c = search needs
 
-part-is-blank-rest-start-2 : tie.Need-part-is-blank-rest-start-2
-part-is-blank-rest-start-2 c = search needs
+part-is-blank-stepwise-start-2 : tie.Need-part-is-blank-stepwise-start-2
+part-is-blank-stepwise-start-2 c = search needs
 
-part-is-blank-rest-end-2 : tie.Need-part-is-blank-rest-end-2
-part-is-blank-rest-end-2 c = search needs
+part-is-blank-stepwise-end-2 : tie.Need-part-is-blank-stepwise-end-2
+part-is-blank-stepwise-end-2 c = search needs
 
-is-blank-rest-requires-2 : tie.Need-is-blank-rest-requires-2
-is-blank-rest-requires-2 c κs = search needs
+is-blank-stepwise-requires-2 : tie.Need-is-blank-stepwise-requires-2
+is-blank-stepwise-requires-2 c κs = search needs
 
 sub-round-where-2 : tie.Need-sub-round-where-2
 sub-round-where-2 c = search needs
@@ -160,7 +160,7 @@ returns c =
     let holds : (k : ℕ) → getD (fieldRules (fieldsOf r)) (k - 1) true ≡ true = rule (fieldRules (fieldsOf r)) (s .pre .1) in
     c .first-broken .ensures
     ∙ rw (n1 .round-where .ensures, n2 .round-where2 .ensures, n3 .blank-where .ensures, n4 .filled-where .ensures, n5 .never-both .ensures)
-    (rw (n1 .before .before .is-blank-rest .ensures, n2 .before .before .is-blank-rest2 .ensures, n1 .before .before .before .before .equal .ensures)
+    (rw (n1 .before .before .is-blank-stepwise .ensures, n2 .before .before .is-blank-stepwise2 .ensures, n1 .before .before .before .before .equal .ensures)
     (rw (n4 .before .before .is-filled .ensures, n5 .before .is-repeater-name .ensures)
     (rw (tenths-given 3 1 false ((meantAt 17) .range) azimuth (holds 17), tenths-given 2 1 true ((meantAt 18) .range) elevation (holds 18), tenths-given 2 1 false anyNumber gain (holds 20))
     (rw (height-given (take 4 (drop 71 r)) (holds 13), frequency-given receive (take 1 (drop 136 r)) (holds 24), head-field 2 13 r (omega arith))
@@ -176,18 +176,18 @@ last-between-spec =
     part-equal-start
     part-equal-end
     equal-requires
-    sub-is-blank-rest
-    part-is-blank-rest-start
-    part-is-blank-rest-end
-    is-blank-rest-requires
+    sub-is-blank-stepwise
+    part-is-blank-stepwise-start
+    part-is-blank-stepwise-end
+    is-blank-stepwise-requires
     sub-round-where
     part-round-where-start
     part-round-where-end
     round-where-requires
-    sub-is-blank-rest-2
-    part-is-blank-rest-start-2
-    part-is-blank-rest-end-2
-    is-blank-rest-requires-2
+    sub-is-blank-stepwise-2
+    part-is-blank-stepwise-start-2
+    part-is-blank-stepwise-end-2
+    is-blank-stepwise-requires-2
     sub-round-where-2
     part-round-where-start-2
     part-round-where-end-2

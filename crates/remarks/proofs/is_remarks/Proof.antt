@@ -1,11 +1,24 @@
 -- `remarks::is_remarks` meets its contract: each return rewrites with the tests on its way.
+use mathlib.Core.Path.{_≡_}
+use mathlib.Core.Bool.{_&&_}
+use mathlib.Core.List.{List}
+use Prim.Native.Nat.{ℕ}
+use lib.ListN.{length, take, drop, length-drop}
+use lib.Seq.{take-all, drop-drop}
 use borrow.Author.Tests.{eq-eqb, ne-eqb}
 use Rattle.remarks.specs.Remarks.{remarksGood}
 use Rattle.columns.proofs.AnswerLaws.{told, passed, failed}
-use Rattle.columns.proofs.TextLaws.{from-on}
+use Rattle.columns.specs.Sets.{isText}
+use Rattle.columns.specs.Texts.{every}
+use Rattle.columns.proofs.TextLaws.{every-parts}
+use native.Mathlib.Omega.{arith}
 use borrow.Author.Needs.{needs}
 use Rattle.remarks.proofs.is_remarks.Statement.{statement}
 use Rattle.remarks.proofs.is_remarks.Tie as tie
+
+-- the free text in its two parts
+free-text : (s : List ℕ) → length s ≡ 50 → (every isText (take 32 (drop 13 s)) && every isText (take 16 (drop 34 s))) ≡ every isText (drop 13 s)
+free-text s h = rw (take-all 16 (drop 34 s) (simp length-drop (omega arith)), ← drop-drop 21 13 s) (every-parts isText 32 21 (drop 13 s) (omega arith))
 
 returns : tie.Need-returns
 unfolding remarksGood
@@ -81,14 +94,29 @@ part-all-in-end c = search needs
 all-in-requires : tie.Need-all-in-requires
 all-in-requires c κs = search needs
 
+sub-all-in-2 : tie.Need-sub-all-in-2
+sub-all-in-2 c = search needs
+
+part-all-in-start-2 : tie.Need-part-all-in-start-2
+part-all-in-start-2 c = search needs
+
+part-all-in-end-2 : tie.Need-part-all-in-end-2
+part-all-in-end-2 c = search needs
+
+all-in-requires-2 : tie.Need-all-in-requires-2
+all-in-requires-2 c κs = search needs
+
 returns-6 : tie.Need-returns-6
 unfolding remarksGood
 returns-6 c =
-    let installation = c .before .before in
+    let first = c .before .before in
+    let installation = first .before .before in
     let cell = installation .before .before .before in
     let generation = cell .before .before .before in
     let filled = generation .before .before .before in
-    rw (eq-eqb _ _ (filled .before .before .if1 .left), told (filled .before .is-blank .ensures) (filled .if2 .left), passed (generation .before .is-generation .ensures) (generation .if3 .left), passed (cell .before .is-cell .ensures) (cell .if4 .left), passed (installation .before .is-installation .ensures) (installation .if5 .left)) (rw from-on at (c .all-in .ensures))
+    let long = filled .before .before in
+    rw (eq-eqb _ _ (long .if1 .left), told (filled .before .is-blank .ensures) (filled .if2 .left), passed (generation .before .is-generation .ensures) (generation .if3 .left), passed (cell .before .is-cell .ensures) (cell .if4 .left), passed (installation .before .is-installation .ensures) (installation .if5 .left))
+    (rw (first .all-in .ensures, c .all-in2 .ensures) (free-text (long .before .before .args .s .now) (long .if1 .left)))
 
 pub is-remarks-spec : {M : Type 1} → statement M
 is-remarks-spec =
@@ -114,4 +142,8 @@ is-remarks-spec =
     part-all-in-start
     part-all-in-end
     all-in-requires
+    sub-all-in-2
+    part-all-in-start-2
+    part-all-in-end-2
+    all-in-requires-2
     returns-6)
