@@ -3,3 +3,4 @@ pub mod DecimalSpelling
 pub mod DecimalTrip
 pub mod DecimalColumn
 pub mod Letters
+pub mod DecimalPlain

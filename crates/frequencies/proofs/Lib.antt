@@ -1,2 +1,3 @@
 pub mod FrequencyLaws
 pub mod FrequencyColumns
+pub mod PlainAmounts

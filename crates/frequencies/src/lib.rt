@@ -1,4 +1,6 @@
 // Frequencies: 1A and 1Y with their units.
+use columns::sets::Set;
+use columns::texts::all_in;
 use columns::texts::byte;
 use columns::texts::is_blank;
 use columns::texts::write_blank;
@@ -9,6 +11,7 @@ use numerals::Signed;
 use numerals::fits_whole;
 use numerals::magnitude;
 ghost use mathlib.Core.Path.{_≡_};
+ghost use mathlib.Core.Bool.{true};
 ghost use lib.ListN.{length};
 ghost use Rattle.columns.specs.Sets.{among};
 ghost use Rattle.frequencies.specs.Frequencies.{amountGood, unitGood, unitOf, unitLetter, frequencyOf, frequencyFits, spellAmount, spellUnit};
@@ -26,10 +29,28 @@ pub enum Frequency {
     Filled(u64, Hertz),
 }
 
+// Whether an amount stands in its one spelling with a digit above 0 in the three places before the point: it is a decimal above zero.
+fn is_plain_amount(p: &[u8]) -> bool
+    ensures { λ r. ⌜ (r ≡ true → amountGood (now (p .entry)) ≡ true) ⌝ }
+{
+    if p.len() != 11 {
+        return false;
+    }
+    if p[5] != b'.' {
+        return false;
+    }
+    all_in(Set::Digit, &p[0..5])
+        & all_in(Set::Digit, &p[6..11])
+        & ((p[2] != b'0') | (p[3] != b'0') | (p[4] != b'0'))
+}
+
 // Whether an amount is blank, or a decimal above zero.
 pub fn is_amount(p: &[u8]) -> bool
     ensures { λ r. ⌜ r ≡ amountGood (now (p .entry)) ⌝ }
 {
+    if is_plain_amount(p) {
+        return true;
+    }
     match read_decimal(Format::Frequency, p) {
         Signed::Bad(_) => false,
         Signed::Blank => true,

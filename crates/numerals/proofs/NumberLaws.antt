@@ -228,3 +228,16 @@ said-turn p i v e l h b =
       most = pow-le-pow-right {n = 10} (omega arith) {i = i + 1} {j = 18} (omega arith);
       said = rw (add-one i, drop-cons p i 0 h);
     }
+
+-- digits read onto a number make it no less,
+pub number-grows : (v : ℕ) (xs : List ℕ) → v ≤ numberFrom v xs
+unfolding numberFrom
+number-grows v [] = omega arith
+number-grows v (c ∷ xs) = omega (arith, number-grows (v * 10 + (c - 48)) xs)
+
+-- and one above 0 makes it more than zero
+pub number-above : (v : ℕ) (xs : List ℕ) (i : ℕ) → 48 < getD xs i 0 → 0 < numberFrom v xs
+unfolding numberFrom
+number-above v [] i h = absurd (omega arith)
+number-above v (c ∷ xs) zero h = omega (arith, number-grows (v * 10 + (c - 48)) xs)
+number-above v (c ∷ xs) (suc i) h = number-above (v * 10 + (c - 48)) xs i h
