@@ -17,7 +17,7 @@ const SIZES: [usize; 3] = [10, 50, 298];
 /// What the output says before its table.
 const STATE: &str = "\
 One thread; every buffer is lent, stays in memory and was used before, so caches are warm.
-Records: 64 different stations in turn; respelling writes into one buffer of 219 bytes, listing
+Records: 64 different stations in turn, and as many headers; respelling writes into one buffer of 219 bytes, listing
 into one of 249. Lines: those of the same stations in turn, filed into one buffer of 219 bytes.
 Judging: files whose 13X share their first nine bytes, or where it is said their last six, and
 all differ, in their sites too, so that no search for a twin or a clash ends early; two files in turn,
@@ -56,6 +56,7 @@ fn main() {
     row("replace that writes one row, n = 298", full.replace_one);
     row("replace that writes 298 rows, n = 298", full.replace_all);
     row("run a day of 10,000 saves, n = 298", day(298));
+    row("header code, headers that hold", header_code());
     row("respell a station", respell());
     row("list a station (record to line)", list_out());
     row("file a line (line to record)", list_in());
@@ -141,6 +142,19 @@ fn station_second(stations: &[Record]) -> Times {
     compare(
         || _ = black_box(raw::station_second(black_box(ours.next().expect("a cycle")))),
         || _ = black_box(peer::station_kind(black_box(theirs.next().expect("a cycle")))),
+    )
+}
+
+fn header_code() -> Times {
+    let headers = samples::headers();
+    for header in &headers {
+        assert_eq!((raw::header_code(header), peer::header_code(header)), ((0, 0), 0));
+    }
+    let mut ours = headers.iter().cycle();
+    let mut theirs = headers.iter().cycle();
+    compare(
+        || _ = black_box(raw::header_code(black_box(ours.next().expect("a cycle")))),
+        || _ = black_box(peer::header_code(black_box(theirs.next().expect("a cycle")))),
     )
 }
 

@@ -126,8 +126,33 @@ fn short_decimal(text: &str, signed: bool) -> String {
     [sign, digits, last].concat()
 }
 
+/// Different headers that break no rule, with all their texts.
+pub fn headers() -> Vec<Record> {
+    let filled = |index: usize| {
+        let mut header = Header { unique: Some(index as i64), ..empty_header(index as i64) };
+        put(&mut header.content, &format!("Base stations and repeaters, list {index} of the owner"));
+        put(&mut header.email, &format!("frequency_{index}@railway.example"));
+        put(&mut header.telephone, &format!("+43 (1) 5550-{index:04}"));
+        put(&mut header.person, &format!("M. Muster-{index}"));
+        let mut record = written_header(&header);
+        put(&mut record[146..166], &format!("+43 (1) 5551-{index:04}"));
+        record
+    };
+    (0..STATIONS).map(filled).collect()
+}
+
+/// A text in the first of its columns.
+fn put(columns: &mut [u8], text: &str) {
+    columns[..text.len()].copy_from_slice(text.as_bytes());
+}
+
 fn header(count: i64) -> Record {
-    let header = Header {
+    written_header(&empty_header(count))
+}
+
+/// A header that breaks no rule and has no text.
+fn empty_header(count: i64) -> Header {
+    Header {
         number: 1,
         kind: b'O',
         origin: *b"AUT",
@@ -136,7 +161,10 @@ fn header(count: i64) -> Record {
         destination: *b"AUT",
         version: *b"1.0",
         ..Header::EMPTY
-    };
+    }
+}
+
+fn written_header(header: &Header) -> Record {
     let mut record = [0; 219];
     header.write(&mut record).expect("the header holds");
     record
