@@ -49,25 +49,33 @@ module _ {A : Type 0} (k : ℕ) (v empty : A) (typed : A → ℕ) (spell : A →
     pub reading-refused : {o : Outcome} → o ≡ ending r k outcome.RecordLength → done o ≡ false → Ends o out
     reading-refused e f = left (e ∙ passes outcome.RecordLength (ruleTest k ∷ []) (none .0) ∙ sym rule-left) f
 
-    -- and what was read of any other fits, and may be written:
-    module _ {o : Outcome} {s : A} (e : o ≡ ending r k outcome.RecordLength) (d : done o ≡ true) (es : s ≡ ifDone (ending r k outcome.RecordLength) v empty) where
+    -- and any other has its length and breaks no rule:
+    module _ {o : Outcome} (e : o ≡ ending r k outcome.RecordLength) (d : done o ≡ true) where
       yes : done (ending r k outcome.RecordLength) ≡ true
       yes = ap done (sym e) ∙ d
 
-      all : (length r ≡ recordLength) × (k ≡ 0)
+      pub all-fit : (length r ≡ recordLength) × (length out ≡ recordLength) × (k ≡ 0)
       unfolding refusal
-      all = accepted r k outcome.RecordLength refl yes
-
-      own : s ≡ v
-      own = es ∙ if-done (ending r k outcome.RecordLength) v empty yes
-
-      pub may-write : (length out ≡ recordLength) × (typed s ≡ 0)
-      may-write = (eqb-true (length out) recordLength (not-false _ (none .1 .0)), ap typed own ∙ fits (all .0) (all .1))
+      all-fit =
+          let all = accepted r k outcome.RecordLength refl yes in
+          (all .0, eqb-true (length out) recordLength (not-false _ (none .1 .0)), all .1)
 
       done-all : respelling k r out ≡ outcome.Done
-      done-all = rule-left ∙ passes (outcome.RuleBroken k) [] (rw (eq-eqb k 0 (all .1))) ∙ none-left
+      done-all = rule-left ∙ passes (outcome.RuleBroken k) [] (rw (eq-eqb k 0 (all-fit .2))) ∙ none-left
 
-      -- by what does not judge it.
-      pub value-put : {after : List ℕ} → after ≡ spell s → Ends outcome.Done after
+      -- the spelling of what it says ends it,
+      pub spelling-put : {after : List ℕ} → after ≡ spell v → Ends outcome.Done after
       unfolding refusal
-      value-put ea = (sym done-all, ea ∙ ap spell own ∙ sym (ap (λ (x : Outcome). ifDone x (spell v) out) done-all ∙ if-done outcome.Done (spell v) out refl))
+      spelling-put ea = (sym done-all, ea ∙ sym (ap (λ (x : Outcome). ifDone x (spell v) out) done-all ∙ if-done outcome.Done (spell v) out refl))
+
+      -- and what was read of it fits, and may be written
+      module _ {s : A} (es : s ≡ ifDone (ending r k outcome.RecordLength) v empty) where
+        own : s ≡ v
+        own = es ∙ if-done (ending r k outcome.RecordLength) v empty yes
+
+        pub may-write : (length out ≡ recordLength) × (typed s ≡ 0)
+        may-write = (all-fit .1, ap typed own ∙ fits (all-fit .0) (all-fit .2))
+
+        -- by what does not judge it.
+        pub value-put : {after : List ℕ} → after ≡ spell s → Ends outcome.Done after
+        value-put ea = spelling-put (ea ∙ ap spell own)

@@ -1,2 +1,3 @@
 pub mod Respelling
 pub mod Promises
+pub mod OwnSpelling

@@ -1,15 +1,18 @@
 // A record in its one spelling.
+use crate::in_place::put_respelled;
 use basics::Outcome;
 use basics::outcomes::is_done;
 use files::lengths::RECORD_LENGTH;
 use header_reading::read_header;
 use header_writing::put_header;
-use reading::typed::read_station;
-use writing::put_station;
+use judging::check_station;
 ghost use mathlib.Core.Path.{_≡_};
 ghost use mathlib.Core.List.{[], _∷_};
 ghost use Rattle.basics.specs.Outcomes.{firstRefusal, recordTest, bufferTest};
 ghost use Rattle.respelling.specs.Promises.{StationRespelled, HeaderRespelled};
+
+pub mod in_place;
+mod numbers;
 
 // Whether a record and a buffer have a record's length: 6, then 7, or done.
 fn check_lengths(rec: &[u8], out: &[u8]) -> Outcome
@@ -24,8 +27,8 @@ fn check_lengths(rec: &[u8], out: &[u8]) -> Outcome
     Outcome::Done
 }
 
-// Writes a station's record in the one spelling into a buffer: 6, 7, 9 with its code, or done; a refusal leaves every byte as it was. What was read breaks
-// no rule, and is not judged again.
+// Writes a station's record in the one spelling into a buffer: 6, 7, 9 with its code, or done; a refusal leaves every byte as it was. What breaks no
+// rule is copied, and only numbers in another spelling are written anew.
 pub fn respell_station(rec: &[u8], out: &mut [u8]) -> Outcome
     ensures { λ r. ⌜ StationRespelled (now (rec .entry)) (now (out .entry)) r (now (out .exit)) ⌝ }
 {
@@ -33,13 +36,11 @@ pub fn respell_station(rec: &[u8], out: &mut [u8]) -> Outcome
     if !is_done(lengths) {
         return lengths;
     }
-    let read = read_station(rec);
-    let outcome = read.outcome;
+    let outcome = check_station(rec);
     if !is_done(outcome) {
         return outcome;
     }
-    let station = read.station;
-    put_station(station, out);
+    put_respelled(rec, out);
     Outcome::Done
 }
 

@@ -1,4 +1,4 @@
--- `respelling::respell_station` meets its contract: what is read from an accepted record breaks no rule and may be written.
+-- `respelling::respell_station` meets its contract: an accepted record is copied and respelled.
 use denote.Ref.{now}
 use mathlib.Core.Path.{sym, _∙_}
 use borrow.Author.Tests.{not-true, not-false}
@@ -6,10 +6,10 @@ use Rattle.basics.proofs.RefusalLaws.{went-on}
 use Rattle.station.specs.Values.{emptyStation}
 use Rattle.station.specs.Spelling.{spellStation}
 use Rattle.station.specs.Codes.{valueOf, stationCode, typedCode}
-use Rattle.station.specs.Calls.{readOutcome, readStation}
+use Rattle.station.specs.Calls.{readOutcome}
 use Rattle.station.proofs.RoundTrip.{read-fits}
 use Rattle.respelling.specs.Respelling.{respellOutcome, respelledStation}
-use Rattle.respelling.proofs.RespellLaws.{lengths-passed, lengths-refused, reading-refused, may-write, value-put}
+use Rattle.respelling.proofs.RespellLaws.{lengths-passed, lengths-refused, reading-refused, all-fit, spelling-put}
 use borrow.Author.Needs.{needs}
 use Rattle.respelling.proofs.respell_station.Statement.{statement}
 use Rattle.respelling.proofs.respell_station.Tie as tie
@@ -30,8 +30,8 @@ returns c =
     let r = now (a .rec) in
     lengths-refused (stationCode r) (valueOf r) emptyStation typedCode spellStation r (now (a .out)) (read-fits r) (c .before .before .check-lengths .ensures) (sym (c .before .is-done .ensures) ∙ not-true _ (c .if1 .taken))
 
-read-station-requires : tie.Need-read-station-requires
-read-station-requires c κs = search needs
+check-station-requires : tie.Need-check-station-requires
+check-station-requires c κs = search needs
 
 is-done-requires-2 : tie.Need-is-done-requires-2
 is-done-requires-2 c κs = search needs
@@ -45,28 +45,26 @@ returns-2 c =
     let a = c .before .before .before .before .before .before .before .before .before .args in
     let r = now (a .rec) in
     let none = lengths-passed r (now (a .out)) (went-on (c .before .before .before .before .before .check-lengths .ensures) (c .before .before .before .before .is-done .ensures) (c .before .before .before .if1 .left)) in
-    reading-refused (stationCode r) (valueOf r) emptyStation typedCode spellStation r (now (a .out)) (read-fits r) none (c .before .before .read-station .ensures .0) (sym (c .before .is-done2 .ensures) ∙ not-true _ (c .if2 .taken))
+    reading-refused (stationCode r) (valueOf r) emptyStation typedCode spellStation r (now (a .out)) (read-fits r) none (c .before .before .check-station .ensures) (sym (c .before .is-done2 .ensures) ∙ not-true _ (c .if2 .taken))
 
-put-station-requires : tie.Need-put-station-requires
-unfolding readOutcome readStation
-put-station-requires c κs =
-    let a = c .before .before .before .before .before .before .before .before .before .before .before .args in
+put-respelled-requires : tie.Need-put-respelled-requires
+unfolding readOutcome
+put-respelled-requires c κs =
+    let a = c .before .before .before .before .before .before .before .before .before .before .args in
     let r = now (a .rec) in
-    let none = lengths-passed r (now (a .out)) (went-on (c .before .before .before .before .before .before .before .check-lengths .ensures) (c .before .before .before .before .before .before .is-done .ensures) (c .before .before .before .before .before .if1 .left)) in
-    let read = c .before .before .before .before .read-station .ensures in
-    may-write (stationCode r) (valueOf r) emptyStation typedCode spellStation r (now (a .out)) (read-fits r) none (read .0) (sym (c .before .before .before .is-done2 .ensures) ∙ not-false _ (c .before .before .if2 .left)) (read .1) .0
+    let none = lengths-passed r (now (a .out)) (went-on (c .before .before .before .before .before .before .check-lengths .ensures) (c .before .before .before .before .before .is-done .ensures) (c .before .before .before .before .if1 .left)) in
+    all-fit (stationCode r) (valueOf r) emptyStation typedCode spellStation r (now (a .out)) (read-fits r) none (c .before .before .before .check-station .ensures) (sym (c .before .before .is-done2 .ensures) ∙ not-false _ (c .before .if2 .left))
 
 same-length-3 : tie.Need-same-length-3
 same-length-3 c = search needs
 
 returns-3 : tie.Need-returns-3
-unfolding respellOutcome respelledStation readOutcome readStation
+unfolding respellOutcome respelledStation readOutcome
 returns-3 c =
-    let a = c .before .before .before .before .before .before .before .before .before .before .before .before .before .before .args in
+    let a = c .before .before .before .before .before .before .before .before .before .before .before .before .before .args in
     let r = now (a .rec) in
-    let none = lengths-passed r (now (a .out)) (went-on (c .before .before .before .before .before .before .before .before .before .before .check-lengths .ensures) (c .before .before .before .before .before .before .before .before .before .is-done .ensures) (c .before .before .before .before .before .before .before .before .if1 .left)) in
-    let read = c .before .before .before .before .before .before .before .read-station .ensures in
-    value-put (stationCode r) (valueOf r) emptyStation typedCode spellStation r (now (a .out)) (read-fits r) none (read .0) (sym (c .before .before .before .before .before .before .is-done2 .ensures) ∙ not-false _ (c .before .before .before .before .before .if2 .left)) (read .1) (c .before .before .put-station .ensures)
+    let none = lengths-passed r (now (a .out)) (went-on (c .before .before .before .before .before .before .before .before .before .check-lengths .ensures) (c .before .before .before .before .before .before .before .before .is-done .ensures) (c .before .before .before .before .before .before .before .if1 .left)) in
+    spelling-put (stationCode r) (valueOf r) emptyStation typedCode spellStation r (now (a .out)) (read-fits r) none (c .before .before .before .before .before .before .check-station .ensures) (sym (c .before .before .before .before .before .is-done2 .ensures) ∙ not-false _ (c .before .before .before .before .if2 .left)) (c .before .before .put-respelled .ensures)
 
 pub respell-station-spec : {M : Type 1} → statement M
 respell-station-spec =
@@ -76,10 +74,10 @@ respell-station-spec =
     is-done-requires
     same-length
     returns
-    read-station-requires
+    check-station-requires
     is-done-requires-2
     same-length-2
     returns-2
-    put-station-requires
+    put-respelled-requires
     same-length-3
     returns-3)
