@@ -24,15 +24,18 @@ tests-passed t e =
     let none = none-applies (lineTests t) refl (ap done e) in
     (not-false _ (none .1 .0), not-false _ (none .1 .1 .0))
 
-line-value : (t : List ℕ) → lineOutcome t ≡ outcome.Done → stationInLine t ≡ valueOf (recordOf t)
+-- so that the record that it says breaks no rule, and says its station
+pub line-code : (t : List ℕ) → lineOutcome t ≡ outcome.Done → stationCode (recordOf t) ≡ 0
+line-code t e = eqb-true (stationCode (recordOf t)) 0 (tests-passed t e .1)
+
+pub line-value : (t : List ℕ) → lineOutcome t ≡ outcome.Done → stationInLine t ≡ valueOf (recordOf t)
 unfolding stationInLine ifDone refusal
 line-value t e = rw e
 
 -- A line that is not refused is read as a station that breaks no rule,
 pub line-fits : (t : List ℕ) → lineOutcome t ≡ outcome.Done → typedCode (stationInLine t) ≡ 0
 line-fits t e =
-    let h = tests-passed t e in
-    rw (line-value t e) (read-fits (recordOf t) (record-length t (h .0)) (eqb-true (stationCode (recordOf t)) 0 (h .1)))
+    rw (line-value t e) (read-fits (recordOf t) (record-length t (tests-passed t e .0)) (line-code t e))
 
 -- which, written as a line and read again, is the same.
 pub line-again : (t : List ℕ) → lineOutcome t ≡ outcome.Done → stationInLine (lineOf (stationInLine t)) ≡ stationInLine t

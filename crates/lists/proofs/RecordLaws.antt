@@ -12,10 +12,9 @@ use Rattle.basics.specs.declared.Outcome.{Outcome}
 use Rattle.basics.specs.declared.Outcome.the-variants as outcome
 use Rattle.basics.proofs.RefusalLaws.{done, if-done, if-refused, passes, ended-there}
 use Rattle.basics.proofs.CallLaws.{accepted}
-use Rattle.station.specs.Values.{emptyStation}
 use Rattle.station.specs.Codes.{valueOf, stationCode, typedCode}
 use Rattle.station.specs.Spelling.{spellStation}
-use Rattle.station.specs.Calls.{readOutcome, readStation}
+use Rattle.station.specs.Calls.{readOutcome}
 use Rattle.station.specs.declared.Station.{Station}
 use Rattle.station.proofs.RoundTrip.{read-fits}
 use Rattle.lists.specs.Calls.{lineTests, roomTest, lineOutcome, stationInLine, writeLineOutcome, lineLength, writtenLine, recordListing, listedLength, listedRecord, lineFiling, filedLine}
@@ -39,26 +38,21 @@ module _ (r buffer : List ℕ) where
         let refused : done (recordListing r buffer) ≡ false = ap done (sym ends) ∙ f in
         (ends, sym (if-refused (recordListing r buffer) _ 0 refused), sym (if-refused (recordListing r buffer) _ buffer refused))
 
-    -- the station of any other is accepted,
-    module _ (d : done o ≡ true) (v : Station) (ev : v ≡ readStation r) where
-      taken : (length r ≡ recordLength) × (stationCode r ≡ 0)
+    -- any other has its length and breaks no rule,
+    module _ (d : done o ≡ true) where
+      pub taken : (length r ≡ recordLength) × (stationCode r ≡ 0)
       unfolding readOutcome refusal
       taken = accepted r (stationCode r) outcome.RecordLength refl (ap done (sym eo) ∙ d)
 
-      pub value-read : v ≡ valueOf r
-      unfolding readStation
-      value-read = ev ∙ if-done (readOutcome r) (valueOf r) emptyStation (ap done (sym eo) ∙ d)
+      pub value-fits : typedCode (valueOf r) ≡ 0
+      value-fits = read-fits r (taken .0) (taken .1)
 
-      pub value-fits : typedCode v ≡ 0
-      value-fits = ap typedCode value-read ∙ read-fits r (taken .0) (taken .1)
-
-      -- and it is listed as its line is written.
-      pub record-listed : (answer : Outcome) (m : ℕ) (after : List ℕ) → answer ≡ writeLineOutcome v buffer → m ≡ lineLength v buffer → after ≡ writtenLine v buffer → Lists answer m after
+      -- and its station is listed as its line is written.
+      pub record-listed : (v : Station) → v ≡ valueOf r → (answer : Outcome) (m : ℕ) (after : List ℕ) → answer ≡ writeLineOutcome v buffer → m ≡ lineLength v buffer → after ≡ writtenLine v buffer → Lists answer m after
       unfolding recordListing listedLength listedRecord writeLineOutcome lineLength writtenLine firstRefusal
-      record-listed answer m after ea em el =
+      record-listed v value answer m after ea em el =
           let s : eqb (length r) recordLength ≡ true = eq-eqb (length r) recordLength (taken .0) in
-          let t : typedCode (valueOf r) ≡ 0 = read-fits r (taken .0) (taken .1) in
-          (ea ∙ rw (value-read, s, taken .1, t), em ∙ rw (value-read, s, taken .1, t), el ∙ rw (value-read, s, taken .1, t))
+          (ea ∙ rw (value, s, taken .1, value-fits), em ∙ rw (value, s, taken .1, value-fits), el ∙ rw (value, s, taken .1, value-fits))
 
 module _ (t out : List ℕ) where
   -- How filing a line into lent bytes ends, and what is left there.

@@ -20,7 +20,7 @@ use Rattle.station.specs.Members.{valuesOf}
 use Rattle.station.specs.Rules.{typedRules}
 use Rattle.station.specs.Between.{betweenRules}
 use Rattle.station.specs.Spelling.{stationPieces, spellStation}
-use Rattle.station.specs.Codes.{typedCode}
+use Rattle.station.specs.Codes.{valueOf, typedCode}
 use Rattle.station.specs.declared.Station.{Station}
 use Rattle.station.proofs.RoundTrip.{write-keeps, read-back}
 use Rattle.semicolons.specs.Fields.{stationSides, trimmedFields, noneLonger}
@@ -95,6 +95,12 @@ unfolding fieldsOf spellStation lineOf
 record-line s e =
     let back : cut stationPlaces (joined (stationPieces s)) ≡ stationPieces s = cut-joined [] 1 stationPlaces (stationPieces s) refl refl (pieces-wide stationSides stationPlaces (stationPieces s) (pieces-listed s (values-hold s e))) in
     ap (λ (ps : List (List ℕ)). joinedLine (trimmedFields stationSides ps)) back
+
+-- and what is the spelling of a station is that of the station which it says,
+pub spelled-own : (s : Station) → typedCode s ≡ 0 → (r : List ℕ) → r ≡ spellStation s → (typedCode (valueOf r) ≡ 0) × (r ≡ spellStation (valueOf r)) × (valueOf r ≡ s)
+spelled-own s z r e =
+    let v : valueOf r ≡ s = ap valueOf e ∙ read-back s z in
+    (ap typedCode v ∙ z, e ∙ ap spellStation (sym v), v)
 
 -- so a station that breaks no rule, written as a line, is not refused,
 pub line-done : (s : Station) → typedCode s ≡ 0 → lineOutcome (lineOf s) ≡ outcome.Done

@@ -1,11 +1,19 @@
-// A station's record as a line, and a line as a station's record.
-use crate::reading_lines::read_line;
+// A station's record as a line, and a line as a station's record. Neither makes a typed station: a record that breaks no rule is respelled where it stands.
 use crate::writing_lines::WrittenLine;
-use crate::writing_lines::write_accepted;
+use crate::writing_lines::write_spelled;
 use basics::Outcome;
 use basics::outcomes::is_done;
-use reading::typed::read_station;
-use writing::put_station;
+use judging::check_station;
+use respelling::in_place::put_respelled;
+use semicolons::filling::put_fields;
+use semicolons::splitting::is_line;
+ghost use mathlib.Core.Path.{_≡_};
+ghost use mathlib.Core.Bool.{true};
+ghost use lib.Dec.{eqb};
+ghost use lib.ListN.{length};
+ghost use Rattle.basics.specs.Outcomes.{refusal};
+ghost use Rattle.semicolons.specs.Lines.{recordOf};
+ghost use Rattle.lists.specs.Calls.{lineOutcome};
 ghost use Rattle.lists.specs.Promises.{RecordListed, LineFiled};
 
 // Writes the station of a record as a line; it is refused where the record has another length than 219 bytes, where it breaks
@@ -13,13 +21,27 @@ ghost use Rattle.lists.specs.Promises.{RecordListed, LineFiled};
 pub fn record_to_line(rec: &[u8], buffer: &mut [u8]) -> WrittenLine
     ensures { λ r. ⌜ RecordListed (now (rec .entry)) (now (buffer .entry)) r (now (buffer .exit)) ⌝ }
 {
-    let read = read_station(rec);
-    let outcome = read.outcome;
-    let station = read.station;
+    let outcome = check_station(rec);
     if !is_done(outcome) {
         return WrittenLine { outcome, length: 0 };
     }
-    write_accepted(station, buffer)
+    let mut own = [b' '; 219];
+    put_respelled(rec, &mut own);
+    write_spelled(&own, buffer)
+}
+
+// Puts the fields of a line into a record, and answers how reading the line ends; where it is done, all of them stand there.
+fn record_in(line: &[u8], rec: &mut [u8]) -> Outcome
+    requires { ⌜ length (now rec) ≡ 219 ⌝ }
+    ensures { λ r. ⌜ (r ≡ lineOutcome (now (line .entry))) × (eqb (refusal r) 0 ≡ true → now (rec .exit) ≡ recordOf (now (line .entry))) ⌝ }
+{
+    if !is_line(line) {
+        return Outcome::NotALine;
+    }
+    if !put_fields(line, rec) {
+        return Outcome::FieldTooLong;
+    }
+    check_station(rec)
 }
 
 // Writes the station of a line as a record; it is refused where the lent bytes are not 219, or where reading the line is, and
@@ -30,11 +52,10 @@ pub fn line_to_record(line: &[u8], out: &mut [u8]) -> Outcome
     if out.len() != 219 {
         return Outcome::BufferLength;
     }
-    let read = read_line(line);
-    let outcome = read.outcome;
-    let station = read.station;
+    let mut rec = [b' '; 219];
+    let outcome = record_in(line, &mut rec);
     if is_done(outcome) {
-        put_station(station, out);
+        put_respelled(&rec, out);
     }
     outcome
 }

@@ -6,10 +6,9 @@ use station::Station;
 use station::typed::typed_code;
 use writing::put_station;
 ghost use mathlib.Core.Path.{_≡_};
-ghost use Prim.Native.Nat.{_≤_};
-ghost use lib.ListN.{length, take};
-ghost use Rattle.station.specs.Codes.{typedCode};
-ghost use Rattle.semicolons.specs.Lines.{lineOf};
+ghost use lib.ListN.{length};
+ghost use Rattle.station.specs.Spelling.{spellStation};
+ghost use Rattle.station.specs.Codes.{valueOf, typedCode};
 ghost use Rattle.lists.specs.Promises.{LineWritten};
 
 // How writing a line ends, and the line's length; 0 on a refusal.
@@ -18,23 +17,13 @@ pub struct WrittenLine {
     pub length: usize,
 }
 
-// Puts the line of a station that breaks no rule into lent bytes, and answers its length.
-fn spell_line(s: Station, out: &mut [u8]) -> usize
-    requires { ⌜ (length (now out) ≡ 249) × (typedCode s ≡ 0) ⌝ }
-    ensures { λ r. ⌜ (r ≤ 249) × (take r (now (out .exit)) ≡ lineOf s) ⌝ }
-{
-    let mut rec = [b' '; 219];
-    put_station(s, &mut rec);
-    put_line(&rec, out)
-}
-
-// Writes a station that breaks no rule as a line; it is refused where the lent buffer is shorter than the line.
-pub(crate) fn write_accepted(s: Station, buffer: &mut [u8]) -> WrittenLine
-    requires { ⌜ typedCode s ≡ 0 ⌝ }
-    ensures { λ r. ⌜ LineWritten s (now (buffer .entry)) r (now (buffer .exit)) ⌝ }
+// Writes the record of a station that breaks no rule, in its one spelling, as a line; it is refused where the lent buffer is shorter than the line.
+pub(crate) fn write_spelled(rec: &[u8], buffer: &mut [u8]) -> WrittenLine
+    requires { ⌜ (length (now rec) ≡ 219) × (typedCode (valueOf (now rec)) ≡ 0) × (now rec ≡ spellStation (valueOf (now rec))) ⌝ }
+    ensures { λ r. ⌜ LineWritten (valueOf (now (rec .entry))) (now (buffer .entry)) r (now (buffer .exit)) ⌝ }
 {
     let mut line = [b' '; 249];
-    let n = spell_line(s, &mut line);
+    let n = put_line(rec, &mut line);
     if buffer.len() < n {
         return WrittenLine {
             outcome: Outcome::BufferTooShort,
@@ -60,5 +49,7 @@ pub fn write_line(s: Station, buffer: &mut [u8]) -> WrittenLine
             length: 0,
         };
     }
-    write_accepted(s, buffer)
+    let mut rec = [b' '; 219];
+    put_station(s, &mut rec);
+    write_spelled(&rec, buffer)
 }

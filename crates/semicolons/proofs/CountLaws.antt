@@ -1,14 +1,14 @@
 -- What a count of bytes does where texts are joined, at the last byte and at a place of a list.
-use mathlib.Core.Path.{_≡_}
+use mathlib.Core.Path.{_≡_, sym, ap, _∙_}
 use mathlib.Core.Bool.{Bool, true}
 use mathlib.Core.List.{List, [], _∷_, _++_}
-use Prim.Native.Nat.{ℕ, _+_, _≤_, _<_}
+use Prim.Native.Nat.{ℕ, _+_, _-_, _≤_, _<_}
 use native.Mathlib.Omega.{arith}
 use native.Mathlib.Nat.{zero-add}
 use native.Mathlib.Numerals.{add-one}
 use lib.Dec.{eqb}
-use lib.ListN.{length, getD, drop, drop-of-length-le}
-use lib.Seq.{drop-cons}
+use lib.ListN.{length, getD, take, drop, drop-of-length-le, take-append-drop}
+use lib.Seq.{drop-cons, drop-drop}
 use borrow.Author.Tests.{eq-eqb, ne-eqb}
 use Rattle.columns.specs.Texts.{howMany}
 use Rattle.semicolons.specs.Lines.{lastByte}
@@ -19,6 +19,13 @@ pub how-many-append : (test : ℕ → Bool) (s t : List ℕ) → howMany test (s
 unfolding howMany
 how-many-append test [] t = omega arith
 how-many-append test (c ∷ s) t = omega (arith, how-many-append test s t)
+
+-- From i on they are those up to e and those from there on.
+pub count-part : (test : ℕ → Bool) (s : List ℕ) (i e : ℕ) → i ≤ e → howMany test (take (e - i) (drop i s)) + howMany test (drop e s) ≡ howMany test (drop i s)
+count-part test s i e h =
+    let there : i + (e - i) ≡ e = omega arith in
+    ap (λ (n : ℕ). howMany test (take (e - i) (drop i s)) + howMany test (drop n s)) (sym there) ∙ ap (λ (l : List ℕ). howMany test (take (e - i) (drop i s)) + howMany test l) (sym (drop-drop (e - i) i s))
+    ∙ sym (how-many-append test (take (e - i) (drop i s)) (drop (e - i) (drop i s))) ∙ ap (howMany test) (take-append-drop (e - i) (drop i s))
 
 -- A text whose last byte passes a test has one that does.
 pub ends-counted : (test : ℕ → Bool) (t : List ℕ) → 1 ≤ length t → test (lastByte t) ≡ true → 1 ≤ howMany test t

@@ -4,7 +4,7 @@ use mathlib.Core.Bool.{true, false, cond}
 use mathlib.Core.List.{List, [], _∷_, _++_, append-assoc, append-nil}
 use Prim.Native.Nat.{ℕ, zero, suc, _+_, _-_, _≤_, _<_}
 use native.Mathlib.Omega.{arith}
-use native.Mathlib.Nat.{sub-zero, zero-add, add-sub-cancel-left}
+use native.Mathlib.Nat.{sub-self, sub-zero, zero-add, add-sub-cancel-left}
 use native.Mathlib.Numerals.{add-one}
 use lib.Dec.{ltb, eqb}
 use lib.ListN.{length, getD, take, drop, replicate, length-append, length-drop, length-replicate, replicate-append-replicate, drop-of-length-le}
@@ -59,6 +59,13 @@ padded-between side.Left w p h =
     rw n (ap (λ (l : List ℕ). missing w p ++ l) (sym (append-nil p)))
 padded-between side.Right w p h = rw (zero-add (length p))
 padded-between side.Kept w p h = rw (zero-add (length p))
+
+-- One that fills its columns has none.
+pub padded-full : (s : Side) (w : ℕ) (p : List ℕ) → length p ≡ w → paddedField s w p ≡ p
+unfolding paddedField
+padded-full side.Left w p e = rw (e, sub-self w)
+padded-full side.Right w p e = rw (e, sub-self w) (append-nil p)
+padded-full side.Kept w p e = rw (e, sub-self w) (append-nil p)
 
 -- So it stands where it is put into blank columns.
 pub put-between : (s : Side) (w a : ℕ) (p blanks : List ℕ) → length p ≤ w → a ≡ spacesBefore s w (length p) → blanks ≡ replicate w 32 → take a blanks ++ (p ++ drop (a + length p) blanks) ≡ paddedField s w p

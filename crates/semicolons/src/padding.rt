@@ -116,11 +116,14 @@ pub(crate) fn put_text(out: &mut [u8], start: usize, text: &[u8])
     write_text(&mut out[start..end], text);
 }
 
-// A field that is not too long in its columns, padded on its side.
+// A field that is not too long in its columns, padded on its side; most fill their columns.
 pub fn put_padded(columns: &mut [u8], field: &[u8], side: Side)
     requires { ⌜ length (now field) ≤ length (now columns) ⌝ }
     ensures { λ _. ⌜ now (columns .exit) ≡ paddedField side (length (now (columns .entry))) (now (field .entry)) ⌝ }
 {
+    if write_text(columns, field) {
+        return;
+    }
     let start = spaces_before(side, columns.len(), field.len());
     write_blank(columns);
     put_text(columns, start, field);
