@@ -1,6 +1,6 @@
 -- A record whose numbers are written anew in their own columns, and all else stays: it is the spelling of its station.
 use mathlib.Core.Path.{_≡_, refl, sym, ap, _∙_}
-use mathlib.Core.Bool.{Bool, true, false}
+use mathlib.Core.Bool.{true, false}
 use mathlib.Core.List.{List, [], _∷_, _++_, append-assoc, append-nil}
 use Prim.Native.Nat.{ℕ, zero, suc, _+_, _-_, _≤_}
 use native.Mathlib.Omega.{arith}
@@ -14,7 +14,6 @@ use Rattle.days.specs.Dates.{dayOf, spellDay}
 use Rattle.frequencies.specs.Frequencies.{frequencyOf, spellAmount, spellUnit}
 use Rattle.distances.specs.Distances.{radiusOf, spellRadius, groundOf, spellGround, heightOf, spellHeight}
 use Rattle.positions.specs.Positions.{positionGood, positionOf, spellPosition}
-use Rattle.fields.specs.Table.{stationTable}
 use Rattle.basics.specs.Fields.{joined}
 use Rattle.basics.specs.Rules.{All}
 use Rattle.station.specs.Places.{fieldsOf}

@@ -12,10 +12,10 @@ use lib.Seq.{length-take-le, split-at}
 use lib.IntN.{ℤ, pos, negsuc, natAbs}
 use borrow.Author.Tests.{eqb-true, lt-ltb, not-true}
 use Rattle.columns.specs.Sets.{isDigit}
-use Rattle.columns.specs.Texts.{head, tail, every, same}
-use Rattle.numerals.specs.Numbers.{numberFrom, number, wholeDigits, wholeOf, amount, spellDigits, spellWhole, signedOf, signedFits, spellSigned, isNegative}
+use Rattle.columns.specs.Texts.{every, same}
+use Rattle.numerals.specs.Numbers.{numberFrom, number, wholeOf, amount, spellDigits, spellWhole, signedOf, signedFits, spellSigned, isNegative}
 use Rattle.distances.specs.Distances.{heightOf, spellHeight}
-use Rattle.decimals.specs.Decimals.{decimalOf, decimalWidth, spellMagnitude, spellDecimal}
+use Rattle.decimals.specs.Decimals.{spellMagnitude, spellDecimal}
 use Rattle.formats.specs.Tenths.{tenthsOf, spellTenths}
 use Rattle.numerals.specs.declared.Whole.the-variants as whole
 use Rattle.numerals.specs.declared.Signed.the-variants as signed

@@ -2,12 +2,11 @@
 use mathlib.Core.Path.{_≡_, refl, sym, ap, _∙_}
 use mathlib.Core.Bool.{Bool, true, false, cond, _&&_, _||_, false≢true}
 use mathlib.Core.List.{List, [], _∷_, _++_, append-nil}
-use Prim.Native.Nat.{ℕ, suc, _≤_}
+use Prim.Native.Nat.{ℕ}
 use native.Mathlib.Omega.{arith}
 use lib.Dec.{eqb}
 use lib.ListN.{length, take, drop, replicate, length-drop, take-append-drop}
 use lib.Seq.{length-take-le, take-all, drop-drop}
-use lib.IntN.{pos, natAbs}
 use borrow.Author.Tests.{eqb-true}
 use Rattle.columns.specs.Sets.{is, among, isDigit}
 use Rattle.columns.specs.Texts.{head, ended, skip, blank, every, each, byteGood}
@@ -16,7 +15,6 @@ use Rattle.numerals.specs.Numbers.{number, passes, inSign, unsigned, spellDigit
 use Rattle.decimals.specs.Decimals.{magnitudeOf, admitsDecimal, decimalOf, spellDecimal}
 use Rattle.formats.specs.Tenths.{inTenths, tenthsOf, spellTenths}
 use Rattle.days.specs.Dates.{dateRule, dateIn, dateReads, unreadDate, dateOf, dayPasses, inDay, dayGood, dayOf, spellDate, spellDay}
-use Rattle.days.specs.declared.dates.Dated.{Dated}
 use Rattle.days.specs.declared.dates.Dated.the-variants as dated
 use Rattle.frequencies.specs.Frequencies.{amountGood, aboveZero, unitGood, unitOf, unitLetter, inUnit, frequencyOf, spellAmount, spellUnit}
 use Rattle.frequencies.specs.declared.Hertz.{Hertz}

@@ -11,10 +11,11 @@ use lib.ListN.{length, getD, take, drop, replicate, length-append, length-drop, 
 use lib.Seq.{take-at, drop-at, drop-cons, drop-drop, length-take-le, take-all}
 use borrow.Author.Tests.{eq-eqb, le-leb, lt-leb, ltb-true}
 use Rattle.columns.specs.Texts.{every}
-use Rattle.columns.proofs.TextLaws.{and-split}
+use Rattle.columns.proofs.TextLaws.{and-split, from-on}
 use Rattle.basics.specs.Fields.{joined}
 use Rattle.semicolons.specs.Fields.{missing, paddedField, spacesBefore, paddedFields, noneLonger}
 use Rattle.semicolons.specs.Lines.{before, behind, split}
+use Rattle.semicolons.specs.Marks.{Ends}
 use Rattle.semicolons.specs.declared.Side.{Side}
 use Rattle.semicolons.proofs.WidthLaws.{padded-length, columnsOf}
 use Rattle.semicolons.specs.declared.Side.the-variants as side
@@ -67,7 +68,12 @@ padded-full side.Left w p e = rw (e, sub-self w)
 padded-full side.Right w p e = rw (e, sub-self w) (append-nil p)
 padded-full side.Kept w p e = rw (e, sub-self w) (append-nil p)
 
--- So it stands where it is put into blank columns.
+-- So columns that a text was copied into to their end hold it.
+pub full-copied : (s : Side) (text columns : List ℕ) (n w : ℕ) → length columns ≡ w → length columns ≤ n → n ≤ length columns → n ≤ length text → take n columns ≡ take n text → columns ≡ paddedField s w (take n text)
+full-copied s text columns n w e long short inside same =
+    sym (take-all n columns long) ∙ same ∙ sym (padded-full s w (take n text) (length-take-le n text inside ∙ omega (arith, e)))
+
+-- It stands where it is put into blank columns.
 pub put-between : (s : Side) (w a : ℕ) (p blanks : List ℕ) → length p ≤ w → a ≡ spacesBefore s w (length p) → blanks ≡ replicate w 32 → take a blanks ++ (p ++ drop (a + length p) blanks) ≡ paddedField s w p
 put-between s w a p blanks h e b =
     let room : a + length p ≤ w = rw e (room-behind s w (length p) h) in
@@ -231,3 +237,43 @@ module _ (ss : List Side) (qs : List (ℕ × ℕ)) (line rec : List ℕ) (k at c
         let same : part ≡ paddedField (getD ss k side.Left) (place .1) (before (drop at line)) = ep ∙ rw (m, wide, es, ef, ew) in
         let short' : length (before (drop at line)) ≤ place .1 = rw (← ef, ← ew) short in
         rw (m, drop-drop w column rec, same, ew) (next-filled at' _ short' inside' next refl)
+
+-- ---- the field that begins at a place of a line, put into a part of a record
+
+module _ (line rec : List ℕ) (at column w : ℕ) (inside : at ≤ length line) (room : column + w ≤ length rec) where
+  -- what is left of the line, and the part
+  abbrev text : List ℕ
+  text = take (length line - at) (drop at line)
+
+  abbrev slot : List ℕ
+  slot = take (column + w - column) (drop column rec)
+
+  slot-wide : length slot ≡ w
+  slot-wide = rw (add-sub-cancel-left column w) (length-take-le w (drop column rec) (omega (arith, length-drop column rec)))
+
+  -- One that is too long is so for the columns,
+  pub long-there : (n : ℕ) → w < n → (length slot < n → length slot < length (before text)) → w < length (before (drop at line))
+  long-there n h f = rw (slot-wide, from-on line at) at (f (rw slot-wide h))
+
+  -- and one that fits
+  module _ (s : Side) (part : List ℕ) (n : ℕ) (short : n ≤ w) (f : n ≤ length slot → Ends text n × (part ≡ paddedField s (length slot) (take n text))) where
+    put : Ends (drop at line) n × (part ≡ paddedField s (length slot) (take n (drop at line)))
+    put = rw (from-on line at) at (f (rw slot-wide short))
+
+    -- ends inside the line,
+    pub ends-inside : at + n ≤ length line
+    ends-inside = omega (arith, put .0 .0, length-drop at line)
+
+    -- is no longer than its columns,
+    pub short-there : length (before (drop at line)) ≤ w
+    short-there = rw (put .0 .1, length-take-le n (drop at line) (put .0 .0)) short
+
+    -- has the next one behind it,
+    pub next-there : drop (at + n + 1) line ≡ behind (drop at line)
+    next-there =
+        let sum : at + (n + 1) ≡ at + n + 1 = omega arith in
+        ap (λ (k : ℕ). drop k line) (sym sum) ∙ sym (drop-drop (n + 1) at line) ∙ sym (put .0 .2)
+
+    -- and stands padded in the part.
+    pub padded-there : part ≡ paddedField s (length slot) (before (drop at line))
+    padded-there = put .1 ∙ ap (paddedField s (length slot)) (sym (put .0 .1))

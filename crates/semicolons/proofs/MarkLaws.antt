@@ -5,17 +5,10 @@ use mathlib.Core.List.{List, [], _∷_, _++_, append-assoc, append-nil}
 use Prim.Native.Nat.{ℕ, suc, _+_, _≤_, _<_}
 use native.Mathlib.Omega.{arith}
 use native.Mathlib.Numerals.{add-one}
-use lib.ListN.{length, getD, take, drop, drop-of-length-le}
-use lib.Seq.{drop-cons, take-suc}
+use lib.ListN.{length, getD, set, take, drop, length-append, drop-of-length-le}
+use lib.Seq.{drop-cons, length-take-le, take-suc, take-suc-set}
 use Rattle.semicolons.specs.Lines.{isMark, before, behind}
-
--- The first i bytes hold no mark: the field goes on with what stands before the next one.
-abbrev pub Passed : List ℕ → ℕ → Type 0
-Passed s i = (i ≤ length s) × (before s ≡ take i s ++ before (drop i s)) × (behind s ≡ behind (drop i s))
-
--- Where the field ends.
-abbrev pub Ends : List ℕ → ℕ → Type 0
-Ends s i = (i ≤ length s) × (before s ≡ take i s) × (behind s ≡ drop (i + 1) s)
+use Rattle.semicolons.specs.Marks.{Passed, Ends}
 
 module _ (s : List ℕ) (i : ℕ) (p : Passed s i) where
   -- a byte that is no mark is passed,
@@ -44,3 +37,11 @@ module _ (s : List ℕ) (i : ℕ) (p : Passed s i) where
       let none : before (drop i s) ≡ [] = rw (drop-of-length-le s {i = i} h) in
       let next : behind (drop i s) ≡ drop (i + 1) s = rw (drop-of-length-le s {i = i} h, drop-of-length-le s {i = i + 1} (omega arith)) in
       (p .0, p .1 ∙ ap (λ (l : List ℕ). take i s ++ l) none ∙ append-nil (take i s), p .2 ∙ next)
+
+-- One byte more of a text, copied to its place.
+pub copied-on : (s columns : List ℕ) (i : ℕ) → i < length s → i < length columns → take i columns ≡ take i s → take (i + 1) (set columns i (getD s i 0)) ≡ take (i + 1) s
+copied-on s columns i h l e = rw (add-one i) (take-suc-set columns i (getD s i 0) l ∙ ap (λ (t : List ℕ). t ++ (getD s i 0 ∷ [])) e ∙ sym (take-suc s i 0 h))
+
+-- A field that goes on behind i bytes is longer than those.
+pub longer : (s : List ℕ) (i : ℕ) → Passed s i → i ≤ length (before s)
+longer s i p = omega (arith, ap length (p .1), length-append (take i s) (before (drop i s)), length-take-le i s (p .0))

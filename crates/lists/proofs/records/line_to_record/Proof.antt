@@ -6,7 +6,6 @@ use Rattle.station.specs.Codes.{valueOf, stationCode}
 use Rattle.semicolons.specs.Lines.{recordOf}
 use Rattle.lists.proofs.Reading.{line-code, line-value}
 use Rattle.lists.proofs.RecordLaws.{not-the-length, line-refused, line-filed}
-use native.Mathlib.Omega.{arith}
 use borrow.Author.Needs.{needs}
 use Rattle.lists.proofs.records.line_to_record.Statement.{statement}
 use Rattle.lists.proofs.records.line_to_record.Tie as tie

@@ -5,7 +5,6 @@ use mathlib.Core.Bool.{false≢true}
 use borrow.Author.Tests.{not-true, not-false}
 use Rattle.basics.specs.Outcomes.{refusal}
 use Rattle.lists.proofs.CallLaws.{not-a-line, long-field, record-read}
-use native.Mathlib.Omega.{arith}
 use borrow.Author.Needs.{needs}
 use Rattle.lists.proofs.records.record_in.Statement.{statement}
 use Rattle.lists.proofs.records.record_in.Tie as tie

@@ -5,7 +5,6 @@ use borrow.Author.Tests.{not-true, not-false}
 use Rattle.station.specs.Codes.{valueOf}
 use Rattle.lists.proofs.RoundTrip.{spelled-own}
 use Rattle.lists.proofs.RecordLaws.{record-refused, taken, value-fits, record-listed}
-use native.Mathlib.Omega.{arith}
 use borrow.Author.Needs.{needs}
 use Rattle.lists.proofs.records.record_to_line.Statement.{statement}
 use Rattle.lists.proofs.records.record_to_line.Tie as tie

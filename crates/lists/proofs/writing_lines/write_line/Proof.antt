@@ -5,7 +5,6 @@ use Rattle.station.specs.declared.Station.{Station}
 use Rattle.lists.specs.Calls.{writeLineOutcome, lineLength, writtenLine}
 use Rattle.lists.proofs.RoundTrip.{spelled-own}
 use Rattle.lists.proofs.CallLaws.{rule-broken}
-use native.Mathlib.Omega.{arith}
 use borrow.Author.Needs.{needs}
 use Rattle.lists.proofs.writing_lines.write_line.Statement.{statement}
 use Rattle.lists.proofs.writing_lines.write_line.Tie as tie

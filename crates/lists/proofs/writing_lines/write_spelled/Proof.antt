@@ -10,7 +10,6 @@ use Rattle.semicolons.specs.Fields.{stationSides, trimmedFields}
 use Rattle.semicolons.specs.Lines.{joinedLine, lineOf}
 use Rattle.lists.proofs.RoundTrip.{record-line}
 use Rattle.lists.proofs.CallLaws.{no-room, line-written}
-use native.Mathlib.Omega.{arith}
 use borrow.Author.Needs.{needs}
 use Rattle.lists.proofs.writing_lines.write_spelled.Statement.{statement}
 use Rattle.lists.proofs.writing_lines.write_spelled.Tie as tie

@@ -1,6 +1,5 @@
 -- `respelling::in_place::respell_in_place` meets its contract: the numbers are written anew, and all else stays.
 use Rattle.respelling.proofs.InPlaceLaws.{fields-hold, location-ready, numbers-written}
-use native.Mathlib.Omega.{arith}
 use borrow.Author.Needs.{needs}
 use Rattle.respelling.proofs.in_place.respell_in_place.Statement.{statement}
 use Rattle.respelling.proofs.in_place.respell_in_place.Tie as tie

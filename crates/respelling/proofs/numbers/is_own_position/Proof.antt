@@ -1,5 +1,5 @@
 -- `respelling::numbers::is_own_position` meets its contract: both halves are their own spelling.
-use mathlib.Core.Path.{sym, ap, _∙_}
+use mathlib.Core.Path.{sym, _∙_}
 use mathlib.Core.Bool.{false≢true}
 use borrow.Author.Tests.{not-false}
 use Rattle.respelling.proofs.OwnPlaces.{position-wide, position-own}

@@ -5,10 +5,9 @@ use Rattle.columns.specs.Texts.{same}
 use lib.ListN.{drop}
 use denote.Ref.{now}
 use mathlib.Core.Bool.{not}
-use mathlib.Core.Path.{_≡_, sym, ap, _∙_}
+use mathlib.Core.Path.{_≡_, ap, _∙_}
 use borrow.Author.Tests.{eq-eqb, ne-eqb, not-true, not-false}
 use Rattle.respelling.specs.OwnSpelling.{signedAround}
-use native.Mathlib.Omega.{arith}
 use borrow.Author.Needs.{needs}
 use Rattle.respelling.proofs.numbers.is_signed_around.Statement.{statement}
 use Rattle.respelling.proofs.numbers.is_signed_around.Tie as tie

@@ -1,7 +1,6 @@
 -- `respelling::numbers::respell_decimal` meets its contract: it stands, or is read and written.
 use mathlib.Core.Path.{sym, ap, _∙_}
 use Rattle.formats.specs.Tenths.{spellTenths}
-use native.Mathlib.Omega.{arith}
 use borrow.Author.Needs.{needs}
 use Rattle.respelling.proofs.numbers.respell_decimal.Statement.{statement}
 use Rattle.respelling.proofs.numbers.respell_decimal.Tie as tie

@@ -2,7 +2,6 @@
 use mathlib.Core.Path.{sym, ap, _∙_}
 use Rattle.distances.specs.Distances.{spellHeight}
 use Rattle.respelling.proofs.OwnLaws.{height-own}
-use native.Mathlib.Omega.{arith}
 use borrow.Author.Needs.{needs}
 use Rattle.respelling.proofs.numbers.respell_height.Statement.{statement}
 use Rattle.respelling.proofs.numbers.respell_height.Tie as tie

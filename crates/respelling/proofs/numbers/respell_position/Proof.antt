@@ -2,7 +2,6 @@
 use mathlib.Core.Path.{sym, ap, _∙_}
 use Rattle.positions.specs.Positions.{spellPosition}
 use Rattle.respelling.proofs.OwnPlaces.{position-wide}
-use native.Mathlib.Omega.{arith}
 use borrow.Author.Needs.{needs}
 use Rattle.respelling.proofs.numbers.respell_position.Statement.{statement}
 use Rattle.respelling.proofs.numbers.respell_position.Tie as tie

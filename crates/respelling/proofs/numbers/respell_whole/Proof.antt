@@ -2,7 +2,6 @@
 use mathlib.Core.Path.{sym, ap, _∙_}
 use Rattle.numerals.specs.Numbers.{spellWhole}
 use Rattle.respelling.proofs.OwnLaws.{whole-own}
-use native.Mathlib.Omega.{arith}
 use borrow.Author.Needs.{needs}
 use Rattle.respelling.proofs.numbers.respell_whole.Statement.{statement}
 use Rattle.respelling.proofs.numbers.respell_whole.Tie as tie

@@ -2,12 +2,12 @@
 use denote.Ref.{now}
 use mathlib.Core.Path.{_≡_, refl, sym, _∙_}
 use mathlib.Core.Bool.{false≢true}
-use Prim.Native.Nat.{_+_, _-_, _≤_, _<_}
-use lib.ListN.{length, getD, drop}
+use Prim.Native.Nat.{_+_, _-_, _≤_}
+use lib.ListN.{length, getD}
 use Rattle.station.specs.Places.{stationPlaces}
 use Rattle.semicolons.specs.Fields.{stationSides}
-use Rattle.semicolons.specs.Lines.{before, lineFields, recordOf}
-use Rattle.semicolons.proofs.FillLaws.{Filled, none-filled, all-fit, all-filled, next-room, field-too-long, part-filled}
+use Rattle.semicolons.specs.Lines.{lineFields, recordOf}
+use Rattle.semicolons.proofs.FillLaws.{Filled, none-filled, all-fit, all-filled, next-room, field-too-long, part-filled, long-there, ends-inside, short-there, next-there, padded-there}
 use native.Mathlib.Omega.{arith}
 use borrow.Author.Needs.{needs}
 use Rattle.semicolons.proofs.filling.put_fields.Statement.{statement}
@@ -23,11 +23,44 @@ loop-holds : tie.Need-loop-holds Inv-loop μ-loop
 loop-holds c =
     let a = c .before .before in (a .pre, none-filled stationSides stationPlaces (now (a .args .line)) (now (a .args .rec)) (a .pre))
 
-field-at-requires : tie.Need-field-at-requires Inv-loop μ-loop
-field-at-requires c κs = c .before .loop .inv .1 .inside
-
 width-after-requires : tie.Need-width-after-requires Inv-loop μ-loop
 width-after-requires c κs = search needs
+
+side-after-requires : tie.Need-side-after-requires Inv-loop μ-loop
+side-after-requires c κs = search needs
+
+-- the next field has its columns in the record
+room : (c : tie.After-side-after Inv-loop μ-loop) → let l = c .before .before .before .loop in l .column + c .before .width-after .result ≤ 219
+room c =
+    let l = c .before .before .before .loop in
+    let end : l .column + getD stationPlaces (l .k) (0, 0) .1 ≤ length (l .rec) = next-room stationSides stationPlaces (now (c .before .before .before .before .before .before .args .line)) (l .rec) (l .k) (l .at) (l .column) (l .inv .1) refl (c .before .before .loop-test .taken) in
+    let w = c .before .width-after .ensures in
+    let size = l .inv .0 in
+    omega (arith, end, w, size)
+
+add-end : tie.Need-add-end Inv-loop μ-loop
+add-end c = omega (arith, room c)
+
+sub-put-field : tie.Need-sub-put-field Inv-loop μ-loop
+sub-put-field c = omega (arith, room c)
+
+part-put-field-start : tie.Need-part-put-field-start Inv-loop μ-loop
+part-put-field-start c = omega (arith, room c)
+
+part-put-field-end : tie.Need-part-put-field-end Inv-loop μ-loop
+part-put-field-end c = omega (arith, room c, c .before .before .before .loop .inv .0)
+
+sub-put-field-2 : tie.Need-sub-put-field-2 Inv-loop μ-loop
+sub-put-field-2 c = let inside = c .before .before .before .before .loop .inv .1 .inside in search needs
+
+part-put-field-start-2 : tie.Need-part-put-field-start-2 Inv-loop μ-loop
+part-put-field-start-2 c = let inside = c .before .before .before .before .loop .inv .1 .inside in search needs
+
+part-put-field-end-2 : tie.Need-part-put-field-end-2 Inv-loop μ-loop
+part-put-field-end-2 c = let inside = c .before .before .before .before .loop .inv .1 .inside in search needs
+
+put-field-requires : tie.Need-put-field-requires Inv-loop μ-loop
+put-field-requires c κs = search needs
 
 same-length : tie.Need-same-length Inv-loop μ-loop
 same-length c = search needs
@@ -35,56 +68,29 @@ same-length c = search needs
 returns : tie.Need-returns Inv-loop μ-loop
 unfolding lineFields
 returns c =
-    let a = c .before .before .before .before .before .before .before .args in
-    let l = c .before .before .before .before .loop in
-    let field = c .before .before .field-at .ensures in
-    let w = c .before .width-after .ensures in
-    let long : getD stationPlaces (l .k) (0, 0) .1 < length (before (drop (l .at) (now (a .line)))) = rw (← w, ← field .0) (c .if1 .taken) in
-    (sym (field-too-long stationSides stationPlaces (now (a .line)) (l .rec) (l .k) (l .at) (l .column) (l .inv .1) refl (c .before .before .before .loop-test .taken) long), λ e. absurd (false≢true e))
-
-side-after-requires : tie.Need-side-after-requires Inv-loop μ-loop
-side-after-requires c κs = search needs
-
-add-end : tie.Need-add-end Inv-loop μ-loop
-add-end c =
-    let l = c .before .before .before .before .before .loop in
-    let end : l .column + getD stationPlaces (l .k) (0, 0) .1 ≤ length (l .rec) = next-room stationSides stationPlaces (now (c .before .before .before .before .before .before .before .before .args .line)) (l .rec) (l .k) (l .at) (l .column) (l .inv .1) refl (c .before .before .before .before .loop-test .taken) in
-    let w = c .before .before .width-after .ensures in
-    let size = l .inv .0 in
-    omega (arith, end, w, size)
-
-sub-put-padded : tie.Need-sub-put-padded Inv-loop μ-loop
-sub-put-padded c =
-    let l = c .before .before .before .before .before .loop in
-    let end : l .column + getD stationPlaces (l .k) (0, 0) .1 ≤ length (l .rec) = next-room stationSides stationPlaces (now (c .before .before .before .before .before .before .before .before .args .line)) (l .rec) (l .k) (l .at) (l .column) (l .inv .1) refl (c .before .before .before .before .loop-test .taken) in
-    let w = c .before .before .width-after .ensures in
-    let size = l .inv .0 in
-    omega (arith, end, w, size)
-
-part-put-padded-start : tie.Need-part-put-padded-start Inv-loop μ-loop
-part-put-padded-start c =
-    let l = c .before .before .before .before .before .loop in
-    let end : l .column + getD stationPlaces (l .k) (0, 0) .1 ≤ length (l .rec) = next-room stationSides stationPlaces (now (c .before .before .before .before .before .before .before .before .args .line)) (l .rec) (l .k) (l .at) (l .column) (l .inv .1) refl (c .before .before .before .before .loop-test .taken) in
-    let w = c .before .before .width-after .ensures in
-    let size = l .inv .0 in
-    omega (arith, end, w, size)
-
-part-put-padded-end : tie.Need-part-put-padded-end Inv-loop μ-loop
-part-put-padded-end c =
-    let l = c .before .before .before .before .before .loop in
-    let end : l .column + getD stationPlaces (l .k) (0, 0) .1 ≤ length (l .rec) = next-room stationSides stationPlaces (now (c .before .before .before .before .before .before .before .before .args .line)) (l .rec) (l .k) (l .at) (l .column) (l .inv .1) refl (c .before .before .before .before .loop-test .taken) in
-    let w = c .before .before .width-after .ensures in
-    let size = l .inv .0 in
-    omega (arith, end, w, size)
-
-put-padded-requires : tie.Need-put-padded-requires Inv-loop μ-loop
-put-padded-requires c κs = search needs
+    let a = c .before .before .before .before .before .before .before .before .before .before .before .before .args in
+    let l = c .before .before .before .before .before .before .before .before .before .loop in
+    let w = c .before .before .before .before .before .before .before .width-after .result in
+    let end = rw (← l .inv .0) at (room (c .before .before .before .before .before .before)) in
+    let long = long-there (now (a .line)) (l .rec) (l .at) (l .column) w (l .inv .1 .inside) end _ (c .if1 .taken) (c .before .before .before .put-field .ensures .1) in
+    (sym (field-too-long stationSides stationPlaces (now (a .line)) (l .rec) (l .k) (l .at) (l .column) (l .inv .1) refl (c .before .before .before .before .before .before .before .before .loop-test .taken) (rw (← c .before .before .before .before .before .before .before .width-after .ensures) long)), λ e. absurd (false≢true e))
 
 add-past : tie.Need-add-past Inv-loop μ-loop
-add-past c = search needs
+add-past c =
+    let a = c .before .before .before .before .before .before .before .before .before .before .before .before .args in
+    let l = c .before .before .before .before .before .before .before .before .before .loop in
+    let w = c .before .before .before .before .before .before .before .width-after .result in
+    let end = rw (← l .inv .0) at (room (c .before .before .before .before .before .before)) in
+    let inside = ends-inside (now (a .line)) (l .rec) (l .at) (l .column) w (l .inv .1 .inside) end _ _ _ (c .if1 .left) (c .before .before .before .put-field .ensures .0) in
+    search needs
 
 past-requires : tie.Need-past-requires Inv-loop μ-loop
-past-requires c κs = search needs
+past-requires c κs =
+    let a = c .before .before .before .before .before .before .before .before .before .before .before .before .args in
+    let l = c .before .before .before .before .before .before .before .before .before .loop in
+    let w = c .before .before .before .before .before .before .before .width-after .result in
+    let end = rw (← l .inv .0) at (room (c .before .before .before .before .before .before)) in
+    ends-inside (now (a .line)) (l .rec) (l .at) (l .column) w (l .inv .1 .inside) end _ _ _ (c .if1 .left) (c .before .before .before .put-field .ensures .0)
 
 add-k : tie.Need-add-k Inv-loop μ-loop
 add-k c = search needs
@@ -94,13 +100,16 @@ loop-less c = search needs
 
 loop-again : tie.Need-loop-again Inv-loop μ-loop
 loop-again c =
-    let line = now (c .before .before .before .before .before .before .before .before .before .before .before .before .before .args .line) in
+    let a = c .before .before .before .before .before .before .before .before .before .before .before .before .before .args in
     let l = c .before .before .before .before .before .before .before .before .before .before .loop in
-    let field = c .before .before .before .before .before .before .before .before .field-at .ensures in
+    let w = c .before .before .before .before .before .before .before .before .width-after .result in
+    let end = rw (← l .inv .0) at (room (c .before .before .before .before .before .before .before)) in
+    let short = c .before .if1 .left in
+    let put = c .before .before .before .before .put-field .ensures .0 in
     let next = c .past .ensures in (
       search needs,
-      part-filled stationSides stationPlaces line (l .rec) (l .k) (l .at) (l .column) (l .inv .1) refl (c .before .before .before .before .before .before .before .before .before .loop-test .taken) _ _ _ _ _
-          (c .before .before .before .before .before .before .before .width-after .ensures) (c .before .before .before .before .before .side-after .ensures) (field .0) (c .before .before .before .before .before .before .if1 .left) (next .0) (next .1 ∙ field .2) (c .before .before .before .put-padded .ensures),
+      part-filled stationSides stationPlaces (now (a .line)) (l .rec) (l .k) (l .at) (l .column) (l .inv .1) refl (c .before .before .before .before .before .before .before .before .before .loop-test .taken) _ _ _ _ _
+          (c .before .before .before .before .before .before .before .before .width-after .ensures) (c .before .before .before .before .before .before .before .side-after .ensures) refl (short-there (now (a .line)) (l .rec) (l .at) (l .column) w (l .inv .1 .inside) end _ _ _ short put) (next .0) (next .1 ∙ next-there (now (a .line)) (l .rec) (l .at) (l .column) w (l .inv .1 .inside) end _ _ _ short put) (padded-there (now (a .line)) (l .rec) (l .at) (l .column) w (l .inv .1 .inside) end _ _ _ short put),
     )
 
 same-length-2 : tie.Need-same-length-2 Inv-loop μ-loop
@@ -120,16 +129,18 @@ put-fields-spec =
     Inv-loop
     μ-loop
     loop-holds
-    field-at-requires
     width-after-requires
-    same-length
-    returns
     side-after-requires
     add-end
-    sub-put-padded
-    part-put-padded-start
-    part-put-padded-end
-    put-padded-requires
+    sub-put-field
+    part-put-field-start
+    part-put-field-end
+    sub-put-field-2
+    part-put-field-start-2
+    part-put-field-end-2
+    put-field-requires
+    same-length
+    returns
     add-past
     past-requires
     add-k

@@ -4,7 +4,8 @@ use mathlib.Core.Path.{refl, sym, _∙_}
 use lib.ListN.{length}
 use native.Mathlib.Omega.{arith}
 use borrow.Author.Needs.{needs}
-use Rattle.semicolons.proofs.MarkLaws.{Passed, pass-on, mark-ends, text-ends}
+use Rattle.semicolons.specs.Marks.{Passed}
+use Rattle.semicolons.proofs.MarkLaws.{pass-on, mark-ends, text-ends}
 use Rattle.semicolons.proofs.marks.field_length.Statement.{statement}
 use Rattle.semicolons.proofs.marks.field_length.Tie as tie
 

@@ -1,6 +1,6 @@
 -- `semicolons::padding::put_padded` meets its contract: the field fills its columns, or stands where it is put into blank ones.
 use denote.Ref.{now}
-use mathlib.Core.Path.{_≡_, sym, ap, _∙_}
+use mathlib.Core.Path.{sym, ap, _∙_}
 use Prim.Native.Nat.{ℕ, _+_, _≤_}
 use lib.ListN.{length, length-replicate}
 use borrow.Author.Tests.{eqb-true}
