@@ -1,7 +1,7 @@
 -- `changing::change_azimuth` meets its contract.
 use denote.Ref.{now}
 use Rattle.station.specs.Setting.{withAzimuth}
-use Rattle.changing.proofs.ChangeLaws.{settled-record}
+use Rattle.changing.proofs.ChangeLaws.{may-put, settled-record}
 use borrow.Author.Needs.{needs}
 use Rattle.changing.proofs.change_azimuth.Statement.{statement}
 use Rattle.changing.proofs.change_azimuth.Tie as tie
@@ -13,7 +13,11 @@ set-azimuth-requires : tie.Need-set-azimuth-requires
 set-azimuth-requires c κs = search needs
 
 settle-record-requires : tie.Need-settle-record-requires
-settle-record-requires c κs = search needs
+settle-record-requires c κs =
+    let a = c .before .before .before .before .before .before .args in
+    let read = c .before .before .before .read-station in
+    let settled = c .before .set-azimuth in
+    may-put (λ s. withAzimuth s (a .v)) (now (a .rec)) (read .result) (settled .result) (read .ensures) (settled .ensures)
 
 same-length : tie.Need-same-length
 same-length c = search needs

@@ -1,7 +1,7 @@
 -- `changing::change_elevation` meets its contract.
 use denote.Ref.{now}
 use Rattle.station.specs.Setting.{withElevation}
-use Rattle.changing.proofs.ChangeLaws.{settled-record}
+use Rattle.changing.proofs.ChangeLaws.{may-put, settled-record}
 use borrow.Author.Needs.{needs}
 use Rattle.changing.proofs.change_elevation.Statement.{statement}
 use Rattle.changing.proofs.change_elevation.Tie as tie
@@ -13,7 +13,11 @@ set-elevation-requires : tie.Need-set-elevation-requires
 set-elevation-requires c κs = search needs
 
 settle-record-requires : tie.Need-settle-record-requires
-settle-record-requires c κs = search needs
+settle-record-requires c κs =
+    let a = c .before .before .before .before .before .before .args in
+    let read = c .before .before .before .read-station in
+    let settled = c .before .set-elevation in
+    may-put (λ s. withElevation s (a .v)) (now (a .rec)) (read .result) (settled .result) (read .ensures) (settled .ensures)
 
 same-length : tie.Need-same-length
 same-length c = search needs

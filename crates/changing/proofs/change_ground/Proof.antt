@@ -1,7 +1,7 @@
 -- `changing::change_ground` meets its contract.
 use denote.Ref.{now}
 use Rattle.station.specs.Setting.{withGround}
-use Rattle.changing.proofs.ChangeLaws.{settled-record}
+use Rattle.changing.proofs.ChangeLaws.{may-put, settled-record}
 use borrow.Author.Needs.{needs}
 use Rattle.changing.proofs.change_ground.Statement.{statement}
 use Rattle.changing.proofs.change_ground.Tie as tie
@@ -13,7 +13,11 @@ set-ground-requires : tie.Need-set-ground-requires
 set-ground-requires c κs = search needs
 
 settle-record-requires : tie.Need-settle-record-requires
-settle-record-requires c κs = search needs
+settle-record-requires c κs =
+    let a = c .before .before .before .before .before .before .args in
+    let read = c .before .before .before .read-station in
+    let settled = c .before .set-ground in
+    may-put (λ s. withGround s (a .v)) (now (a .rec)) (read .result) (settled .result) (read .ensures) (settled .ensures)
 
 same-length : tie.Need-same-length
 same-length c = search needs

@@ -1,8 +1,13 @@
--- `changing::settle_record` meets its contract.
-use mathlib.Core.Path.{sym, ap, _∙_}
+-- `changing::settle_record` meets its contract: what was settled may be written without being judged again.
+use mathlib.Core.Path.{refl, sym, ap, _∙_}
 use denote.Ref.{now}
 use borrow.Author.Tests.{not-true, not-false}
-use Rattle.basics.proofs.RefusalLaws.{if-done, if-refused}
+use Rattle.basics.specs.Outcomes.{refusal}
+use Rattle.basics.specs.declared.Outcome.the-variants as outcome
+use Rattle.basics.proofs.RefusalLaws.{done, if-done, if-refused}
+use Rattle.basics.proofs.CallLaws.{accepted}
+use Rattle.station.specs.Codes.{typedCode}
+use Rattle.station.specs.Calls.{writeOutcome, writtenStation}
 use Rattle.changing.proofs.ChangeLaws.{first-ends, second-ends}
 use borrow.Author.Needs.{needs}
 use Rattle.changing.proofs.settle_record.Statement.{statement}
@@ -25,18 +30,28 @@ returns-2 c =
     let no = sym (c .before .is-done2 .ensures) ∙ not-true _ (c .if2 .taken) in
     (sym (second-ends _ _ yes ∙ first-ends _ _ no), sym (if-done _ _ _ yes ∙ if-refused _ _ _ no))
 
-write-station-requires : tie.Need-write-station-requires
-write-station-requires c κs = search needs
+put-station-requires : tie.Need-put-station-requires
+unfolding writeOutcome refusal
+put-station-requires c κs =
+    let start = c .before .before .before .before .before .before .before in
+    let first = sym (c .before .before .before .before .before .is-done .ensures) ∙ not-false _ (c .before .before .before .before .if1 .left) in
+    let second = sym (c .before .before .before .is-done2 .ensures) ∙ not-false _ (c .before .before .if2 .left) in
+    accepted (now (start .args .rec)) (typedCode (start .args .settled .station)) outcome.BufferLength refl (ap done (start .pre first second)) .0
 
 same-length : tie.Need-same-length
 same-length c = search needs
 
 returns-3 : tie.Need-returns-3
+unfolding writtenStation refusal
 returns-3 c =
+    let start = c .before .before .before .before .before .before .before .before .before .before in
     let first = sym (c .before .before .before .before .before .before .before .before .is-done .ensures) ∙ not-false _ (c .before .before .before .before .before .before .before .if1 .left) in
     let second = sym (c .before .before .before .before .before .before .is-done2 .ensures) ∙ not-false _ (c .before .before .before .before .before .if2 .left) in
-    let written = c .before .before .write-station .ensures in
-    (written .0 ∙ sym (second-ends _ _ first ∙ second-ends _ _ second), written .1 ∙ sym (if-done _ _ _ first ∙ if-done _ _ _ second))
+    let put = start .pre first second in (
+      sym (second-ends _ _ first ∙ second-ends _ _ second ∙ put),
+      c .before .before .put-station .ensures
+          ∙ sym (if-done _ _ _ first ∙ if-done _ _ _ second ∙ if-done (writeOutcome (start .args .settled .station) (now (start .args .rec))) _ _ (ap done put)),
+    )
 
 pub settle-record-spec : {M : Type 1} → statement M
 settle-record-spec =
@@ -46,6 +61,6 @@ settle-record-spec =
     returns
     is-done-requires-2
     returns-2
-    write-station-requires
+    put-station-requires
     same-length
     returns-3)
