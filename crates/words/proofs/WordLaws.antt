@@ -1,0 +1,99 @@
+-- Bytes as numbers: equal numbers are equal bytes.
+use mathlib.Core.Path.{_≡_, refl, sym, ap, _∙_}
+use mathlib.Core.Bool.{Bool, true, false, false≢true}
+use mathlib.Core.List.{List, [], _∷_}
+use Prim.Native.Nat.{ℕ, zero, suc, _+_, _-_, _*_, _≤_, _<_}
+use native.Mathlib.Omega.{arith}
+use lib.ListN.{length, getD, take, drop, length-drop, take-append-drop}
+use lib.Seq.{drop-cons, take-take, take-all, getD-drop, length-take-le}
+use lib.Dec.{eqb}
+use borrow.Author.Tests.{eq-eqb, eqb-true}
+use Rattle.columns.specs.Texts.{same}
+use Rattle.columns.proofs.SameLaws.{same-refl, same-true}
+use Rattle.words.specs.Words.{wordOf, wordAt}
+
+-- Each element is a byte.
+abbrev pub Bytes : List ℕ → Type 0
+Bytes s = (i : ℕ) → getD s i 0 < 256
+
+low-byte : (x y m n : ℕ) → x < 256 → y < 256 → x + 256 * m ≡ y + 256 * n → (x ≡ y) × (m ≡ n)
+low-byte x y m n hx hy e = (omega arith, omega arith)
+
+-- Equal numbers of as many bytes are equal bytes.
+pub word-same : (a b : List ℕ) → length a ≡ length b → Bytes a → Bytes b → wordOf a ≡ wordOf b → a ≡ b
+word-same [] [] l ha hb e = refl
+word-same [] (y ∷ b) l ha hb e = absurd (omega arith)
+word-same (x ∷ a) [] l ha hb e = absurd (omega arith)
+word-same (x ∷ a) (y ∷ b) l ha hb e =
+    let h = low-byte x y (wordOf a) (wordOf b) (ha 0) (hb 0) e in
+    let t : a ≡ b = word-same a b (omega arith) (λ i. ha (suc i)) (λ i. hb (suc i)) (h .1) in
+    let d : x ≡ y = h .0 in
+    cc
+
+-- eight bytes, one by one
+next : (s : List ℕ) (a b n : ℕ) → b ≡ suc a → a < length s → take (suc n) (drop a s) ≡ getD s a 0 ∷ take n (drop b s)
+next s a b n e h = rw (drop-cons s a 0 h, e)
+
+pub word-bytes : (s : List ℕ) (at : ℕ) → at + 8 ≤ length s
+    → wordAt s at
+    ≡ getD s at 0 + 256 * getD s (at + 1) 0 + 65536 * getD s (at + 2) 0 + 16777216 * getD s (at + 3) 0 + 4294967296 * getD s (at + 4) 0
+    + 1099511627776 * getD s (at + 5) 0 + 281474976710656 * getD s (at + 6) 0 + 72057594037927936 * getD s (at + 7) 0
+unfolding wordAt
+word-bytes s at h =
+    let e0 : take 8 (drop at s) ≡ getD s at 0 ∷ take 7 (drop (at + 1) s) = next s at (at + 1) 7 (omega arith) (omega arith) in
+    let e1 : take 7 (drop (at + 1) s) ≡ getD s (at + 1) 0 ∷ take 6 (drop (at + 2) s) = next s (at + 1) (at + 2) 6 (omega arith) (omega arith) in
+    let e2 : take 6 (drop (at + 2) s) ≡ getD s (at + 2) 0 ∷ take 5 (drop (at + 3) s) = next s (at + 2) (at + 3) 5 (omega arith) (omega arith) in
+    let e3 : take 5 (drop (at + 3) s) ≡ getD s (at + 3) 0 ∷ take 4 (drop (at + 4) s) = next s (at + 3) (at + 4) 4 (omega arith) (omega arith) in
+    let e4 : take 4 (drop (at + 4) s) ≡ getD s (at + 4) 0 ∷ take 3 (drop (at + 5) s) = next s (at + 4) (at + 5) 3 (omega arith) (omega arith) in
+    let e5 : take 3 (drop (at + 5) s) ≡ getD s (at + 5) 0 ∷ take 2 (drop (at + 6) s) = next s (at + 5) (at + 6) 2 (omega arith) (omega arith) in
+    let e6 : take 2 (drop (at + 6) s) ≡ getD s (at + 6) 0 ∷ take 1 (drop (at + 7) s) = next s (at + 6) (at + 7) 1 (omega arith) (omega arith) in
+    let e7 : take 1 (drop (at + 7) s) ≡ getD s (at + 7) 0 ∷ take 0 (drop (at + 8) s) = next s (at + 7) (at + 8) 0 (omega arith) (omega arith) in
+    rw (e0, e1, e2, e3, e4, e5, e6, e7) (omega arith)
+
+-- Some bytes of bytes are bytes.
+pub bytes-take : (n : ℕ) (s : List ℕ) → Bytes s → Bytes (take n s)
+bytes-take zero s h i = omega arith
+bytes-take (suc n) [] h i = omega arith
+bytes-take (suc n) (x ∷ s) h zero = h 0
+bytes-take (suc n) (x ∷ s) h (suc i) = bytes-take n s (λ j. h (suc j)) i
+
+pub bytes-drop : (n : ℕ) (s : List ℕ) → Bytes s → Bytes (drop n s)
+bytes-drop n s h i = rw getD-drop (h (n + i))
+
+-- A test that is true just where two texts are equal is `same`.
+pub is-same : (a b : List ℕ) (r : Bool) → (r ≡ true → a ≡ b) → (a ≡ b → r ≡ true) → r ≡ same a b
+is-same a b true there back = let e : a ≡ b = there refl in rw e (sym (same-refl b))
+is-same a b false there back = sym (not-same (same a b) refl)
+  where
+    not-same : (t : Bool) → same a b ≡ t → t ≡ false
+    not-same true e = sym (back (same-true a b e))
+    not-same false e = refl
+
+-- Texts of which some number differs are not the same.
+pub other-number : (f : List ℕ → ℕ) (a b : List ℕ) → (f a ≡ f b → ⊥) → false ≡ same a b
+other-number f a b n = is-same a b false (λ e. absurd (false≢true e)) (λ e. absurd (n (ap f e)))
+
+-- Two texts of one length, 8 to 16 bytes, with the same first and last eight bytes.
+module _ (a b : List ℕ) (l : length a ≡ length b) (short : length a ≤ 16) (ha : Bytes a) (hb : Bytes b) where
+  part : (at : ℕ) → at + 8 ≤ length a → wordAt a at ≡ wordAt b at → take 8 (drop at a) ≡ take 8 (drop at b)
+  unfolding wordAt
+  part at room e =
+      word-same (take 8 (drop at a)) (take 8 (drop at b)) (eight a room ∙ sym (eight b (omega arith)))
+      (bytes-take 8 (drop at a) (bytes-drop at a ha)) (bytes-take 8 (drop at b) (bytes-drop at b hb)) e
+    where
+      eight : (s : List ℕ) → at + 8 ≤ length s → length (take 8 (drop at s)) ≡ 8
+      eight s h = length-take-le 8 (drop at s) (rw length-drop (omega arith))
+
+  both-words : 8 ≤ length a → wordAt a (length a - 8) ≡ wordAt b (length a - 8) → wordAt a 0 ≡ wordAt b 0 → a ≡ b
+  both-words long el e0 =
+      let w : ℕ = length a - 8 in
+      let la : length (drop w a) ≤ 8 = rw length-drop (omega arith) in
+      let lb : length (drop w b) ≤ 8 = rw length-drop (omega arith) in
+      let tail : drop w a ≡ drop w b = sym (take-all 8 (drop w a) la) ∙ part w (omega arith) el ∙ take-all 8 (drop w b) lb in
+      let head : take w a ≡ take w b = sym (take-take w 8 a (omega arith)) ∙ ap (take w) (part 0 (omega arith) e0) ∙ take-take w 8 b (omega arith) in
+      sym (take-append-drop w a) ∙ rw (head, tail) (take-append-drop w b)
+
+  pub same-words : 8 ≤ length a → (x y : ℕ) → x ≡ wordAt a 0 → y ≡ wordAt b 0 → wordAt a (length a - 8) ≡ wordAt b (length a - 8) → eqb x y ≡ same a b
+  same-words long x y ex ey el =
+      is-same a b (eqb x y)
+      (λ t. both-words long el (sym ex ∙ eqb-true x y t ∙ ey)) (λ e. eq-eqb x y (ex ∙ ap (λ s. wordAt s 0) e ∙ sym ey))
