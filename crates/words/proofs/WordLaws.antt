@@ -2,10 +2,10 @@
 use mathlib.Core.Path.{_≡_, refl, sym, ap, _∙_}
 use mathlib.Core.Bool.{Bool, true, false, false≢true}
 use mathlib.Core.List.{List, [], _∷_}
-use Prim.Native.Nat.{ℕ, zero, suc, _+_, _-_, _*_, _≤_, _<_}
+use Prim.Native.Nat.{ℕ, zero, suc, _+_, _-_, _*_, _%_, _≤_, _<_}
 use native.Mathlib.Omega.{arith}
 use lib.ListN.{length, getD, take, drop, length-drop, take-append-drop}
-use lib.Seq.{drop-cons, take-take, take-all, getD-drop, length-take-le}
+use lib.Seq.{drop-cons, drop-drop, take-take, take-all, getD-drop, length-take-le}
 use lib.Dec.{eqb}
 use borrow.Author.Tests.{eq-eqb, eqb-true}
 use Rattle.columns.specs.Texts.{same}
@@ -97,3 +97,36 @@ module _ (a b : List ℕ) (l : length a ≡ length b) (short : length a ≤ 16) 
   same-words long x y ex ey el =
       is-same a b (eqb x y)
       (λ t. both-words long el (sym ex ∙ eqb-true x y t ∙ ey)) (λ e. eq-eqb x y (ex ∙ ap (λ s. wordAt s 0) e ∙ sym ey))
+
+-- Equal numbers of as many bytes tell that two texts are the same.
+pub word-eqb : (a b : List ℕ) → length a ≡ length b → Bytes a → Bytes b → eqb (wordOf a) (wordOf b) ≡ same a b
+word-eqb a b l ha hb =
+    is-same a b (eqb (wordOf a) (wordOf b)) (λ t. word-same a b l ha hb (eqb-true (wordOf a) (wordOf b) t)) (λ e. eq-eqb (wordOf a) (wordOf b) (ap wordOf e))
+
+-- a part of the front
+part-of-front : (n i w : ℕ) (s : List ℕ) → i + n ≤ w → take n (drop i (take w s)) ≡ take n (drop i s)
+part-of-front n zero w s h = take-take n w s (omega arith)
+part-of-front n (suc i) zero s h = absurd (omega arith)
+part-of-front n (suc i) (suc w) [] h = refl
+part-of-front n (suc i) (suc w) (x ∷ s) h = part-of-front n i w s (omega arith)
+
+-- A word inside a part of a text is one of the text.
+pub word-inside : (s : List ℕ) (a w at : ℕ) → at + 8 ≤ w → wordAt (take w (drop a s)) at ≡ wordAt s (a + at)
+unfolding wordAt
+word-inside s a w at h = rw (part-of-front 8 at w (drop a s) h, drop-drop at a s)
+
+-- Six bytes are the low end of eight.
+pub six-of-eight : (s : List ℕ) (at : ℕ) → at + 8 ≤ length s → Bytes s → wordAt s at % 281474976710656 ≡ wordOf (take 6 (drop at s))
+six-of-eight s at h b =
+    let e0 : take 6 (drop at s) ≡ getD s at 0 ∷ take 5 (drop (at + 1) s) = next s at (at + 1) 5 (omega arith) (omega arith) in
+    let e1 : take 5 (drop (at + 1) s) ≡ getD s (at + 1) 0 ∷ take 4 (drop (at + 2) s) = next s (at + 1) (at + 2) 4 (omega arith) (omega arith) in
+    let e2 : take 4 (drop (at + 2) s) ≡ getD s (at + 2) 0 ∷ take 3 (drop (at + 3) s) = next s (at + 2) (at + 3) 3 (omega arith) (omega arith) in
+    let e3 : take 3 (drop (at + 3) s) ≡ getD s (at + 3) 0 ∷ take 2 (drop (at + 4) s) = next s (at + 3) (at + 4) 2 (omega arith) (omega arith) in
+    let e4 : take 2 (drop (at + 4) s) ≡ getD s (at + 4) 0 ∷ take 1 (drop (at + 5) s) = next s (at + 4) (at + 5) 1 (omega arith) (omega arith) in
+    let e5 : take 1 (drop (at + 5) s) ≡ getD s (at + 5) 0 ∷ take 0 (drop (at + 6) s) = next s (at + 5) (at + 6) 0 (omega arith) (omega arith) in
+    rw (word-bytes s at h, e0, e1, e2, e3, e4, e5) (low-six (getD s at 0) (getD s (at + 1) 0) (getD s (at + 2) 0) (getD s (at + 3) 0) (getD s (at + 4) 0) (getD s (at + 5) 0) (getD s (at + 6) 0) (getD s (at + 7) 0) (b at) (b (at + 1)) (b (at + 2)) (b (at + 3)) (b (at + 4)) (b (at + 5)))
+  where
+    low-six : (a b c d e f g h : ℕ) → a < 256 → b < 256 → c < 256 → d < 256 → e < 256 → f < 256
+        → (a + 256 * b + 65536 * c + 16777216 * d + 4294967296 * e + 1099511627776 * f + 281474976710656 * g + 72057594037927936 * h) % 281474976710656
+        ≡ a + 256 * (b + 256 * (c + 256 * (d + 256 * (e + 256 * (f + 256 * 0)))))
+    low-six a b c d e f g h la lb lc ld le lf = omega arith

@@ -1,0 +1,4 @@
+pub mod ChainLaws
+pub mod SecondLaws
+pub mod KeyLaws
+pub mod WalkLaws

@@ -1,0 +1,4 @@
+pub mod Chains
+pub mod Seconds
+pub mod Keys
+pub mod Scopes

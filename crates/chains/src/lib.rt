@@ -1,0 +1,4 @@
+// Chains: the first station that bears a key, found in one pass.
+
+pub mod chaining;
+pub mod keys;
