@@ -12,7 +12,7 @@ use peer::{lists, sheet_length, Record, Station};
 use timing::{compare, Times};
 
 /// The sizes of file at which growth is measured.
-const SIZES: [usize; 3] = [10, 50, 298];
+const SIZES: [usize; 4] = [10, 50, 250, 298];
 
 /// What the output says before its table.
 const STATE: &str = "\
@@ -23,8 +23,8 @@ Judging: files whose 13X share their first nine bytes, or where it is said their
 all differ, in their sites too, so that no search for a twin or a clash ends early; two files in turn,
 one sheet. At one site: 13X that differ in their last three digits alone. Verifying: the same files, each with the sheet that it is judged to.
 Replacing: one file and its own sheet, changed by every call. One row: each station in turn gets
-a 13X that no other has. A day: 10,000 such saves in one call, which judges first. n rows: all stations share one 13X; number 1 leaves it and comes back to
-it by turns.
+a 13X that no other has. A day: 10,000 such saves in one call, which judges first. n rows: all stations share one 13X, or the
+second half where it is said; the first of those that do leaves it and comes back to it by turns.
 ";
 
 /// What is measured at one size of file.
@@ -44,7 +44,7 @@ fn main() {
     println!("the two sides by turns.\n{STATE}");
     println!("{:45} {:>12} {:>12} {:>15}", "call", "verified", "peer", "verified : peer");
     let sizes = SIZES.map(measured);
-    let [small, _, full] = &sizes;
+    let [small, .., full] = &sizes;
     row("station code, own spelling", station_code(&samples::stations()));
     row("station code, loose spellings", station_code(&samples::loose_stations()));
     row("station code, one field broken", station_code(&samples::broken_stations()));
@@ -55,6 +55,7 @@ fn main() {
     row("operators, n = 298, 100 of them", full.operators);
     row("replace that writes one row, n = 298", full.replace_one);
     row("replace that writes 298 rows, n = 298", full.replace_all);
+    row("replace that writes half the rows, n = 250", replace_half(250));
     row("run a day of 10,000 saves, n = 298", day(298));
     row("header code, headers that hold", header_code());
     row("respell a station", respell());
@@ -375,6 +376,20 @@ fn replace_all(n: usize) -> Times {
         (1, samples::referenced(&samples[step % samples::STATIONS], reference))
     };
     replacements(file, (0..samples::STATIONS).map(record).collect(), n)
+}
+
+/// The stations of the second half share one 13X; the first of them leaves it, and comes back to it.
+fn replace_half(n: usize) -> Times {
+    let samples = samples::stations();
+    let first = n / 2;
+    let file = samples::file(n, |index| {
+        samples::near_reference(if index + 1 < first { index + 1 } else { 0 })
+    });
+    let record = |step: usize| {
+        let reference = samples::near_reference((step + 1) % 2 * 300);
+        (first, samples::referenced(&samples[step % samples::STATIONS], reference))
+    };
+    replacements(file, (0..samples::STATIONS).map(record).collect(), n + 1 - first)
 }
 
 /// Makes the same replacements over and over, each of which writes `rows` rows.
