@@ -115,18 +115,30 @@ pub word-inside : (s : List ℕ) (a w at : ℕ) → at + 8 ≤ w → wordAt (tak
 unfolding wordAt
 word-inside s a w at h = rw (part-of-front 8 at w (drop a s) h, drop-drop at a s)
 
--- Six bytes are the low end of eight.
-pub six-of-eight : (s : List ℕ) (at : ℕ) → at + 8 ≤ length s → Bytes s → wordAt s at % 281474976710656 ≡ wordOf (take 6 (drop at s))
-six-of-eight s at h b =
+-- Six bytes, one by one,
+six-bytes : (s : List ℕ) (at : ℕ) → at + 6 ≤ length s
+    → wordOf (take 6 (drop at s))
+    ≡ getD s at 0 + 256 * getD s (at + 1) 0 + 65536 * getD s (at + 2) 0 + 16777216 * getD s (at + 3) 0 + 4294967296 * getD s (at + 4) 0 + 1099511627776 * getD s (at + 5) 0
+six-bytes s at h =
     let e0 : take 6 (drop at s) ≡ getD s at 0 ∷ take 5 (drop (at + 1) s) = next s at (at + 1) 5 (omega arith) (omega arith) in
     let e1 : take 5 (drop (at + 1) s) ≡ getD s (at + 1) 0 ∷ take 4 (drop (at + 2) s) = next s (at + 1) (at + 2) 4 (omega arith) (omega arith) in
     let e2 : take 4 (drop (at + 2) s) ≡ getD s (at + 2) 0 ∷ take 3 (drop (at + 3) s) = next s (at + 2) (at + 3) 3 (omega arith) (omega arith) in
     let e3 : take 3 (drop (at + 3) s) ≡ getD s (at + 3) 0 ∷ take 2 (drop (at + 4) s) = next s (at + 3) (at + 4) 2 (omega arith) (omega arith) in
     let e4 : take 2 (drop (at + 4) s) ≡ getD s (at + 4) 0 ∷ take 1 (drop (at + 5) s) = next s (at + 4) (at + 5) 1 (omega arith) (omega arith) in
     let e5 : take 1 (drop (at + 5) s) ≡ getD s (at + 5) 0 ∷ take 0 (drop (at + 6) s) = next s (at + 5) (at + 6) 0 (omega arith) (omega arith) in
-    rw (word-bytes s at h, e0, e1, e2, e3, e4, e5) (low-six (getD s at 0) (getD s (at + 1) 0) (getD s (at + 2) 0) (getD s (at + 3) 0) (getD s (at + 4) 0) (getD s (at + 5) 0) (getD s (at + 6) 0) (getD s (at + 7) 0) (b at) (b (at + 1)) (b (at + 2)) (b (at + 3)) (b (at + 4)) (b (at + 5)))
+    rw (e0, e1, e2, e3, e4, e5) (omega arith)
+
+pub six-bytes-in-all : (s : List ℕ) → length s ≡ 6
+    → wordOf s ≡ getD s 0 0 + 256 * getD s 1 0 + 65536 * getD s 2 0 + 16777216 * getD s 3 0 + 4294967296 * getD s 4 0 + 1099511627776 * getD s 5 0
+six-bytes-in-all s h = ap wordOf (sym (take-all 6 s (omega arith))) ∙ six-bytes s 0 (omega arith)
+
+-- are the low end of eight.
+pub six-of-eight : (s : List ℕ) (at : ℕ) → at + 8 ≤ length s → Bytes s → wordAt s at % 281474976710656 ≡ wordOf (take 6 (drop at s))
+six-of-eight s at h b =
+    rw (word-bytes s at h, six-bytes s at (omega arith))
+    (low-six (getD s at 0) (getD s (at + 1) 0) (getD s (at + 2) 0) (getD s (at + 3) 0) (getD s (at + 4) 0) (getD s (at + 5) 0) (getD s (at + 6) 0) (getD s (at + 7) 0) (b at) (b (at + 1)) (b (at + 2)) (b (at + 3)) (b (at + 4)) (b (at + 5)))
   where
     low-six : (a b c d e f g h : ℕ) → a < 256 → b < 256 → c < 256 → d < 256 → e < 256 → f < 256
         → (a + 256 * b + 65536 * c + 16777216 * d + 4294967296 * e + 1099511627776 * f + 281474976710656 * g + 72057594037927936 * h) % 281474976710656
-        ≡ a + 256 * (b + 256 * (c + 256 * (d + 256 * (e + 256 * (f + 256 * 0)))))
+        ≡ a + 256 * b + 65536 * c + 16777216 * d + 4294967296 * e + 1099511627776 * f
     low-six a b c d e f g h la lb lc ld le lf = omega arith

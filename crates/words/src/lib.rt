@@ -3,10 +3,10 @@ ghost use mathlib.Core.Path.{_≡_};
 ghost use Prim.Native.Nat.{_+_, _≤_, _<_};
 ghost use lib.ListN.{length, getD};
 ghost use Rattle.columns.specs.Texts.{same};
-ghost use Rattle.words.specs.Words.{wordAt};
+ghost use Rattle.words.specs.Words.{wordOf, wordAt};
 
 // The byte at a place, as a number of 64 bits.
-fn wide_byte(s: &[u8], at: usize) -> u64
+pub fn wide_byte(s: &[u8], at: usize) -> u64
     requires { ⌜ at < length (now s) ⌝ }
     ensures { λ r. ⌜ r ≡ getD (now (s .entry)) at 0 ⌝ }
     ensures { λ r. ⌜ r < 256 ⌝ }
@@ -27,6 +27,19 @@ pub fn word(s: &[u8], at: usize) -> u64
         + 1099511627776 * wide_byte(s, at + 5)
         + 281474976710656 * wide_byte(s, at + 6)
         + 72057594037927936 * wide_byte(s, at + 7)
+}
+
+// Six bytes as one number.
+pub fn word_of_six(s: &[u8]) -> u64
+    requires { ⌜ length (now s) ≡ 6 ⌝ }
+    ensures { λ r. ⌜ r ≡ wordOf (now (s .entry)) ⌝ }
+{
+    wide_byte(s, 0)
+        + 256 * wide_byte(s, 1)
+        + 65536 * wide_byte(s, 2)
+        + 16777216 * wide_byte(s, 3)
+        + 4294967296 * wide_byte(s, 4)
+        + 1099511627776 * wide_byte(s, 5)
 }
 
 // Whether two texts of one length, 8 to 16 bytes, are equal: by their last eight bytes, which nearly always tell, and their first eight.
