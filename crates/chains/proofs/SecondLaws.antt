@@ -231,3 +231,22 @@ module _ (s : Search) (alike : ℕ → ℕ → Bool) (classes : Classes alike) w
         before f l low on =
             getD-set-other seconds (suc m) f 0 0 (λ q. absurd (omega arith)) ∙ so-far .right f l low on
             ∙ sym (first-past (apart s alike f) m (others-apart f l low on (λ e. absurd (let z : f ≡ 0 = sym e ∙ none in omega arith))))
+
+  -- The same at station k, where those before it are told of.
+  pub second-out : (seconds : List ℕ) (k : ℕ) → 1 ≤ k → Seconds s alike seconds (k - 1) → s .takes k ≡ false → Seconds s alike seconds k
+  second-out seconds zero l so-far out = absurd (omega arith)
+  second-out seconds (suc m) l so-far out = let d : suc m - 1 ≡ m = omega arith in seconds-out seconds m (rw d at so-far) out
+
+  pub second-led : (seconds : List ℕ) (k : ℕ) → 1 ≤ k → Seconds s alike seconds (k - 1) → firstBearer s k ≡ 0 → k < recordNumbers → Seconds s alike (set seconds k 0) k
+  second-led seconds zero l so-far none fits = absurd (omega arith)
+  second-led seconds (suc m) l so-far none fits = let d : suc m - 1 ≡ m = omega arith in seconds-led seconds m (rw d at so-far) none fits
+
+  module _ (f : ℕ) (there : 1 ≤ f) where
+    pub second-kept : (seconds : List ℕ) (k : ℕ) → 1 ≤ k → Seconds s alike seconds (k - 1) → firstBearer s k ≡ f → (alike f k ≡ true) ⊎ (getD seconds f 0 ≡ 0 → ⊥) → Seconds s alike seconds k
+    second-kept seconds zero l so-far found why = absurd (omega arith)
+    second-kept seconds (suc m) l so-far found why = let d : suc m - 1 ≡ m = omega arith in seconds-kept seconds m (rw d at so-far) f found there why
+
+    pub second-found : (seconds : List ℕ) (k : ℕ) → 1 ≤ k → Seconds s alike seconds (k - 1) → firstBearer s k ≡ f → k < recordNumbers → s .takes k ≡ true → alike f k ≡ false → getD seconds f 0 ≡ 0
+        → Seconds s alike (set seconds f k) k
+    second-found seconds zero l so-far found fits t a none = absurd (omega arith)
+    second-found seconds (suc m) l so-far found fits t a none = let d : suc m - 1 ≡ m = omega arith in seconds-found seconds m (rw d at so-far) f found there fits t a none

@@ -1,45 +1,20 @@
--- The search for the lowest station that clashes.
-use mathlib.Core.Path.{_≡_, refl, sym, _∙_}
-use mathlib.Core.Bool.{Bool, true, false, not, _&&_}
+-- A station's clash, by its site: the first that stands elsewhere, of those that take part.
+use mathlib.Core.Path.{_≡_, refl, sym}
+use mathlib.Core.Bool.{Bool, true, false, not, _&&_, and-comm, and-false}
 use mathlib.Core.List.{List}
-use Prim.Native.Nat.{ℕ, zero, suc, _+_, _-_, _≤_, _<_}
-use native.Mathlib.Omega.{arith}
+use Prim.Native.Nat.{ℕ, zero, suc, _-_}
 use lib.Dec.{eqb}
 use borrow.Author.Tests.{eq-eqb, ne-eqb}
 use Rattle.columns.specs.Texts.{same}
+use Rattle.columns.proofs.SameLaws.{same-true}
 use Rattle.stations.specs.Stations.{codeAt, siteAt}
 use Rattle.forms.specs.Counting.{first}
-use Rattle.forms.proofs.CountLaws.{first-found}
+use Rattle.forms.proofs.CountLaws.{first-cong}
+use Rattle.chains.specs.Chains.{bears}
+use Rattle.chains.specs.Seconds.{apart}
+use Rattle.chains.specs.Keys.{keyAt}
 use Rattle.clashes.specs.Clashes.{standAlike, clashing, clashAt}
-
-module _ (file : List ℕ) (k i : ℕ) where
-  -- Stations of other sites do not clash,
-  pub other-site : same (siteAt file i) (siteAt file k) ≡ false → false ≡ clashing file k i
-  unfolding clashing
-  other-site e = rw e
-
-  -- nor do those that stand alike,
-  pub alike : same (siteAt file i) (siteAt file k) ≡ true → standAlike file i k ≡ true → false ≡ clashing file k i
-  unfolding clashing
-  alike s e = rw (s, e)
-
-  -- nor one that breaks a rule,
-  pub broken : same (siteAt file i) (siteAt file k) ≡ true → (codeAt file i ≡ 0 → ⊥) → false ≡ clashing file k i
-  unfolding clashing
-  broken s n = rw (s, ne-eqb (codeAt file i) 0 n) (by-case (standAlike file i k))
-    where
-      by-case : (b : Bool) → false ≡ (not b && false)
-      by-case true = refl
-      by-case false = refl
-
-  -- and all others at the site do.
-  pub unlike : same (siteAt file i) (siteAt file k) ≡ true → codeAt file i ≡ 0 → codeAt file k ≡ 0 → not (standAlike file i k) ≡ clashing file k i
-  unfolding clashing
-  unlike s ci ck = rw (s, eq-eqb (codeAt file i) 0 ci, eq-eqb (codeAt file k) 0 ck) (by-case (standAlike file i k))
-    where
-      by-case : (b : Bool) → not b ≡ (not b && true)
-      by-case true = refl
-      by-case false = refl
+use Rattle.clashes.specs.Sites.{atSite, GoodTakesPart, firstElsewhere}
 
 -- the last of four tests fails
 last-fails : (a b c d : Bool) → d ≡ false → (a && (b && (c && d))) ≡ false
@@ -58,17 +33,22 @@ module _ (file : List ℕ) (k : ℕ) where
   none n zero = refl
   none n (suc m) = rw (none n m, never n (suc m))
 
-  -- and has no clash.
+  -- A station that breaks a rule has no clash.
   pub own-broken : (codeAt file k ≡ 0 → ⊥) → 0 ≡ clashAt file k
   unfolding clashAt
   own-broken n = sym (none n (k - 1))
 
-  -- a search that has found none so far
-  module _ (i : ℕ) (nothing : first (clashing file k) i ≡ 0) where
-    pub clash-found : i + 1 < k → clashing file k (i + 1) ≡ true → i + 1 ≡ clashAt file k
-    unfolding clashAt
-    clash-found l hit = first-found (clashing file k) (k - 1) i nothing (omega arith) hit
+  -- the two tests agree
+  tests-agree : (who : ℕ → Bool) (i : ℕ) → (siteAt file i ≡ siteAt file k → GoodTakesPart file who i) → codeAt file k ≡ 0 → apart (atSite who file) (standAlike file) k i ≡ clashing file k i
+  unfolding apart bears keyAt clashing
+  tests-agree who i here good = by-case (same (siteAt file i) (siteAt file k)) refl
+    where
+      by-case : (b : Bool) → same (siteAt file i) (siteAt file k) ≡ b
+          → ((who i && same (siteAt file i) (siteAt file k)) && not (standAlike file i k)) ≡ (same (siteAt file i) (siteAt file k) && (not (standAlike file i k) && (eqb (codeAt file i) 0 && eqb (codeAt file k) 0)))
+      by-case true e = rw (e, here (same-true (siteAt file i) (siteAt file k) e), eq-eqb (codeAt file k) 0 good) (and-comm (eqb (codeAt file i) 0 && true) (not (standAlike file i k)))
+      by-case false e = rw (e, and-false (who i))
 
-    pub clash-none : i < k → k ≤ i + 1 → 0 ≡ clashAt file k
-    unfolding clashAt
-    clash-none l h = let e : k - 1 ≡ i = omega arith in rw e (sym nothing)
+  -- One that breaks none clashes with the first that stands elsewhere, where of its site those take part that break no rule.
+  pub own-good : (who : ℕ → Bool) → ((i : ℕ) → siteAt file i ≡ siteAt file k → GoodTakesPart file who i) → codeAt file k ≡ 0 → firstElsewhere file who k ≡ clashAt file k
+  unfolding clashAt
+  own-good who here good = first-cong (apart (atSite who file) (standAlike file) k) (clashing file k) (k - 1) (λ i l. tests-agree who (suc i) (here (suc i)) good)

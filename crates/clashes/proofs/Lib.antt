@@ -1,3 +1,4 @@
 pub mod SameLaws
 pub mod KeptLaws
 pub mod ClashLaws
+pub mod SiteLaws

@@ -1,6 +1,6 @@
 -- Counts, places and heights that are the same.
 use mathlib.Core.Path.{_≡_, refl, sym, ap, _∙_}
-use mathlib.Core.Bool.{Bool, true, false, _&&_, false≢true, true≢false}
+use mathlib.Core.Bool.{Bool, true, false, _&&_, false≢true, true≢false, and-eq-true-iff}
 use mathlib.Core.List.{List}
 use Prim.Native.Nat.{ℕ}
 use lib.Dec.{eqb}
@@ -17,6 +17,7 @@ use Rattle.distances.specs.Distances.{groundOf}
 use Rattle.station.specs.Places.{fieldsOf}
 use Rattle.files.specs.Files.{recordAt}
 use Rattle.stations.specs.Stations.{positionAt, groundAt}
+use Rattle.chains.specs.Seconds.{Classes}
 use Rattle.clashes.specs.Clashes.{sameCount, samePlace, standAlike}
 
 -- A count is the same as itself,
@@ -48,7 +49,30 @@ unfolding samePlace
 place-same (located.Bad wrong) = refl
 place-same (located.Filled p) = rw (count-same (p .east), count-same (p .north))
 
--- so that stations with the same bytes for place and height stand alike.
+-- and one that is the same as another is the same as all that the other is,
+place-like : (x p q : Located) → samePlace p q ≡ true → samePlace x p ≡ samePlace x q
+unfolding samePlace
+place-like (located.Bad wrong) (located.Bad other) (located.Bad last) e = refl
+place-like (located.Filled x) (located.Bad other) (located.Bad last) e = refl
+place-like x (located.Bad other) (located.Filled q) e = absurd (false≢true e)
+place-like x (located.Filled p) (located.Bad other) e = absurd (false≢true e)
+place-like (located.Bad wrong) (located.Filled p) (located.Filled q) e = refl
+place-like (located.Filled x) (located.Filled p) (located.Filled q) e =
+    let both = and-eq-true-iff (sameCount (p .east) (q .east)) (sameCount (p .north) (q .north)) .0 e in
+    rw (same-count (p .east) (q .east) (both .0), same-count (p .north) (q .north) (both .1))
+
+-- so that standing alike cuts stations into classes,
+pub stand-classes : (file : List ℕ) → Classes (standAlike file)
+unfolding standAlike
+stand-classes file =
+    record {
+      itself = λ i. rw (place-same (positionAt file i), count-same (groundAt file i .0));
+      like = λ i j k e.
+          let both = and-eq-true-iff (samePlace (positionAt file j) (positionAt file k)) (sameCount (groundAt file j .0) (groundAt file k .0)) .0 e in
+          rw (place-like (positionAt file i) (positionAt file j) (positionAt file k) (both .0), same-count (groundAt file j .0) (groundAt file k .0) (both .1));
+    }
+
+-- and stations with the same bytes for place and height stand alike.
 pub spelled-so : (file : List ℕ) (i k : ℕ) → take 15 (drop 51 (recordAt file i)) ≡ take 15 (drop 51 (recordAt file k)) → take 4 (drop 107 (recordAt file i)) ≡ take 4 (drop 107 (recordAt file k))
     → standAlike file i k ≡ true
 unfolding standAlike positionAt groundAt fieldsOf

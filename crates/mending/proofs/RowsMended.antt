@@ -1,4 +1,4 @@
--- One more row mended, written where it is touched and kept where it is not; and what a replaced station leaves.
+-- The rows that a replacement touches, as those that are written in a scope; and what a replaced station leaves.
 use mathlib.Core.Path.{_≡_, refl, sym, ap, _∙_}
 use mathlib.Core.Bool.{Bool, true, false, cond}
 use mathlib.Core.List.{List, _++_}
@@ -9,13 +9,21 @@ use lib.Seq.{length-take-le}
 use Rattle.files.specs.Files.{withRecord}
 use Rattle.forms.specs.Counting.{count, rows}
 use Rattle.stations.specs.Stations.{siteAt}
-use Rattle.forms.proofs.CountLaws.{count-none}
+use Rattle.forms.proofs.CountLaws.{count-cong, count-none}
 use Rattle.forms.specs.OwnForm.{rowWidth, headIn, withTrailer}
 use Rattle.sheet.specs.Sheets.{rowOf}
 use Rattle.forms.specs.Forms.{rowAt}
 use Rattle.mending.specs.Replacing.{touched, mendedRow, mendedSheet, writes, rowsWritten}
-use Rattle.forms.proofs.RowLaws.{RowsWide, take-rows, row-put, row-kept}
+use Rattle.forms.proofs.RowLaws.{RowsWide, rows-cong, take-rows}
+use Rattle.sheet.specs.Entered.{written, writtenRow}
 use Rattle.sheet.proofs.SheetLaws.{rows-wide}
+use Rattle.basics.specs.Fields.{recordLength}
+use Rattle.words.specs.Words.{wordOf}
+use Rattle.words.proofs.WordLaws.{Bytes, word-eqb}
+use Rattle.stations.proofs.StationLaws.{site-wide}
+use Rattle.chains.specs.declared.keys.Scope.{Scope}
+use Rattle.chains.specs.Scopes.{inScope}
+use Rattle.chains.proofs.KeyLaws.{site-bytes, sites-same}
 
 module _ (file old : List ℕ) (k : ℕ) (sheet : List ℕ) where
   -- The rows of a mended sheet have their width.
@@ -27,24 +35,27 @@ module _ (file old : List ℕ) (k : ℕ) (sheet : List ℕ) where
       by-case true = rows-wide file n i h
       by-case false = length-take-le rowWidth (drop (rowWidth * (suc i - 1)) sheet) (rw length-drop (omega arith))
 
-  -- a touched row has its value for the file
-  mended-so : (j : ℕ) → touched file old k j ≡ true → mendedRow file old k sheet j ≡ rowOf file j
-  unfolding mendedRow
-  mended-so j hit = rw hit
+-- The rows that are touched are those that are written from k on in the scope of the old site and the new one.
+module _ (file old : List ℕ) (k : ℕ) (b : Bytes file) (bo : Bytes old) (six : length old ≡ 6) (there : recordLength * k + recordLength ≤ length file) where
+  abbrev both : Scope
+  both = record { all = false; one = wordOf old; other = wordOf (siteAt file k) }
 
-  module _ (i : ℕ) (room : rowWidth * i + rowWidth ≤ length sheet) where
-    -- a row that is touched and written,
-    pub mended-hit : (now : List ℕ) → touched file old k (i + 1) ≡ true → now ≡ rows (mendedRow file old k sheet) i ++ drop (rowWidth * i) sheet
-        → take (rowWidth * i) now ++ (rowOf file (i + 1) ++ drop (rowWidth * i + rowWidth) now) ≡ rows (mendedRow file old k sheet) (i + 1) ++ drop (rowWidth * (i + 1)) sheet
-    mended-hit now hit e =
-        ap (λ (t : List ℕ). take (rowWidth * i) now ++ (t ++ drop (rowWidth * i + rowWidth) now)) (sym (mended-so (i + 1) hit))
-        ∙ row-put rowWidth (mendedRow file old k sheet) sheet i (mended-wide i (omega arith)) now e
+  touched-so : (j : ℕ) → recordLength * j + recordLength ≤ length file → written both k file j ≡ touched file old k j
+  unfolding touched written inScope
+  touched-so j h = rw (word-eqb (siteAt file j) old (site-wide file j h ∙ sym six) (site-bytes file b j) bo, sites-same file b j k h there)
 
-    -- and one that is not, and kept
-    pub mended-miss : touched file old k (i + 1) ≡ false
-        → rows (mendedRow file old k sheet) i ++ drop (rowWidth * i) sheet ≡ rows (mendedRow file old k sheet) (i + 1) ++ drop (rowWidth * (i + 1)) sheet
-    unfolding mendedRow rowAt
-    mended-miss miss = let e : i + 1 - 1 ≡ i = omega arith in row-kept rowWidth (mendedRow file old k sheet) sheet i (rw (miss, e))
+  module _ (n : ℕ) (room : recordLength * n + recordLength ≤ length file) where
+    touched-count : count (written both k file) n ≡ count (touched file old k) n
+    touched-count = count-cong (written both k file) (touched file old k) n (λ i l. touched-so (suc i) (omega arith))
+
+    touched-rows : (sheet : List ℕ) → rows (writtenRow both k file sheet) n ≡ rows (mendedRow file old k sheet) n
+    unfolding writtenRow mendedRow
+    touched-rows sheet = rows-cong (writtenRow both k file sheet) (mendedRow file old k sheet) n (λ i l. rw (touched-so (suc i) (omega arith)))
+
+    pub touched-written : (one other r : ℕ) (sheet after : List ℕ) → one ≡ wordOf old → other ≡ wordOf (siteAt file k) → let scope : Scope = record { all = false; one = one; other = other } in
+        r ≡ count (written scope k file) n → after ≡ rows (writtenRow scope k file sheet) n ++ drop (rowWidth * n) sheet
+        → (r ≡ count (touched file old k) n) × (after ≡ rows (mendedRow file old k sheet) n ++ drop (rowWidth * n) sheet)
+    touched-written one other r sheet after e1 e2 er ea = (er ∙ rw (e1, e2) touched-count, ea ∙ rw (e1, e2, touched-rows sheet))
 
 -- what holds of each successor holds of each number that is not 0
 by-suc : (P : ℕ → Type 0) → ((j : ℕ) → P (suc j)) → (k : ℕ) → 1 ≤ k → P k

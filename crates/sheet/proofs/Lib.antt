@@ -1,4 +1,6 @@
-pub mod TwinLaws
 pub mod SheetLaws
 pub mod JudgeLaws
+pub mod EnteredLaws
+pub mod WrittenLaws
+pub mod TrailerLaws
 pub mod Unique

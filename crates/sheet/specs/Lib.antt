@@ -1,3 +1,4 @@
 pub mod Sheets
+pub mod Entered
 pub mod Calls
 pub mod Promises

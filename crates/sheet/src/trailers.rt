@@ -5,7 +5,7 @@ use forms::form::MARK_PLACE;
 use forms::form::ROW_WIDTH;
 use forms::form::TRAILER_LENGTH;
 use forms::form::WIDTH_BYTE;
-use forms::readers::is_bad;
+use words::wide_byte;
 ghost use mathlib.Core.Path.{_≡_};
 ghost use mathlib.Core.Bool.{_&&_};
 ghost use Prim.Native.Nat.{_+_, _*_, _≤_};
@@ -16,6 +16,20 @@ ghost use Rattle.forms.specs.Forms.{trailerOf};
 ghost use Rattle.forms.specs.OwnForm.{form, bad, withTrailer, trailerFits, rowWidth, sheetLength};
 ghost use Rattle.files.specs.Files.{mostStations};
 
+// Whether row i + 1 is bad: a byte of it is not 0.
+fn bad_row(sheet: &[u8], i: usize) -> bool
+    requires { ⌜ (i ≤ mostStations) × (rowWidth * i + rowWidth ≤ length (now sheet)) ⌝ }
+    ensures { λ r. ⌜ r ≡ bad (now (sheet .entry)) (i + 1) ⌝ }
+{
+    let at = ROW_WIDTH * i;
+    wide_byte(sheet, at)
+        + wide_byte(sheet, at + 1)
+        + wide_byte(sheet, at + 2)
+        + wide_byte(sheet, at + 3)
+        + wide_byte(sheet, at + 4)
+        != 0
+}
+
 // The lowest of n rows that is bad, or 0.
 fn lowest_bad(sheet: &[u8], n: usize) -> u16
     requires { ⌜ (n ≤ mostStations) × (rowWidth * n ≤ length (now sheet)) ⌝ }
@@ -24,7 +38,7 @@ fn lowest_bad(sheet: &[u8], n: usize) -> u16
     let mut i = 0;
     while i < n {
         let k = i + 1;
-        if is_bad(sheet, i) {
+        if bad_row(sheet, i) {
             return k as u16;
         }
         i = k;
@@ -40,12 +54,23 @@ fn bad_rows(sheet: &[u8], n: usize) -> u16
     let mut found: u16 = 0;
     let mut i = 0;
     while i < n {
-        if is_bad(sheet, i) {
+        if bad_row(sheet, i) {
             found += 1;
         }
         i += 1;
     }
     found
+}
+
+// The lowest bad row, where the number of bad rows is known: it is searched for only where there is one.
+fn lowest_of(sheet: &[u8], n: usize, found: u16) -> u16
+    requires { ⌜ (n ≤ mostStations) × (rowWidth * n ≤ length (now sheet)) × (found ≡ count (bad (now sheet)) n) ⌝ }
+    ensures { λ r. ⌜ r ≡ first (bad (now (sheet .entry))) n ⌝ }
+{
+    if found == 0 {
+        return 0;
+    }
+    lowest_bad(sheet, n)
 }
 
 // The trailer of n rows: distance, width, the header's code, the lowest bad row, the number of bad rows, and the mark.
@@ -74,7 +99,8 @@ pub fn standing_trailer(sheet: &[u8], n: usize, head: u8) -> [u8; TRAILER_LENGTH
     ensures { λ r. ⌜ r ≡ trailerOf form n head (first (bad (take (rowWidth * n) (now (sheet .entry)))) n) (count (bad (take (rowWidth * n) (now (sheet .entry)))) n) ⌝ }
 {
     let rows = &sheet[..ROW_WIDTH * n];
-    trailer_bytes(n, head, lowest_bad(rows, n), bad_rows(rows, n))
+    let found = bad_rows(rows, n);
+    trailer_bytes(n, head, lowest_of(rows, n, found), found)
 }
 
 // Writes the trailer of the n rows that stand behind them.

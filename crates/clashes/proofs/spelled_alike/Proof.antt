@@ -2,8 +2,11 @@
 use denote.Ref.{now}
 use mathlib.Core.Path.{_≡_, sym, _∙_}
 use mathlib.Core.Bool.{true, false≢true}
+use mathlib.Core.List.{List}
+use Prim.Native.Nat.{ℕ, _≤_}
 use native.Mathlib.Omega.{arith}
-use lib.ListN.{take, drop}
+use lib.ListN.{length, take, drop, length-drop}
+use lib.Seq.{length-take-le}
 use Rattle.columns.specs.Texts.{same}
 use Rattle.columns.proofs.SameLaws.{same-true}
 use Rattle.files.specs.Files.{recordAt}
@@ -19,6 +22,42 @@ record-in-requires c κs = search needs
 record-in-requires-2 : tie.Need-record-in-requires-2
 record-in-requires-2 c κs = search needs
 
+sub-equal-words : tie.Need-sub-equal-words
+sub-equal-words c = search needs
+
+part-equal-words-start : tie.Need-part-equal-words-start
+part-equal-words-start c = search needs
+
+part-equal-words-end : tie.Need-part-equal-words-end
+part-equal-words-end c =
+    let start = c .before .before .before in
+    column-there (now (start .args .file)) (start .args .i) (start .pre .0) (c .before .record-in .ensures .0) 66 (omega arith)
+
+sub-equal-words-2 : tie.Need-sub-equal-words-2
+sub-equal-words-2 c = search needs
+
+part-equal-words-start-2 : tie.Need-part-equal-words-start-2
+part-equal-words-start-2 c = search needs
+
+part-equal-words-end-2 : tie.Need-part-equal-words-end-2
+part-equal-words-end-2 c =
+    let start = c .before .before .before .before in
+    column-there (now (start .args .file)) (start .args .k) (start .pre .1) (c .before .record-in2 .ensures .0) 66 (omega arith)
+
+-- 4C has fifteen bytes
+fifteen : (rec : List ℕ) → 66 ≤ length rec → length (take 15 (drop 51 rec)) ≡ 15
+fifteen rec h = length-take-le 15 (drop 51 rec) (rw length-drop (omega arith))
+
+equal-words-requires : tie.Need-equal-words-requires
+equal-words-requires c κs =
+    let start = c .before .before .before .before .before in
+    let file = now (start .args .file) in
+    let theirs = c .before .before .before .record-in in
+    let mine = c .before .before .record-in2 in
+    let a = fifteen (now (theirs .result)) (column-there file (start .args .i) (start .pre .0) (theirs .ensures .0) 66 (omega arith)) in
+    let b = fifteen (now (mine .result)) (column-there file (start .args .k) (start .pre .1) (mine .ensures .0) 66 (omega arith)) in
+    (a ∙ sym b, (omega (arith, a), omega (arith, a)))
+
 sub-equal : tie.Need-sub-equal
 sub-equal c = search needs
 
@@ -27,8 +66,8 @@ part-equal-start c = search needs
 
 part-equal-end : tie.Need-part-equal-end
 part-equal-end c =
-    let start = c .before .before .before in
-    column-there (now (start .args .file)) (start .args .i) (start .pre .0) (c .before .record-in .ensures .0) 66 (omega arith)
+    let start = c .before .before .before .before .before .before .before in
+    column-there (now (start .args .file)) (start .args .i) (start .pre .0) (c .before .before .before .before .before .record-in .ensures .0) 111 (omega arith)
 
 sub-equal-2 : tie.Need-sub-equal-2
 sub-equal-2 c = search needs
@@ -38,36 +77,11 @@ part-equal-start-2 c = search needs
 
 part-equal-end-2 : tie.Need-part-equal-end-2
 part-equal-end-2 c =
-    let start = c .before .before .before .before in
-    column-there (now (start .args .file)) (start .args .k) (start .pre .1) (c .before .record-in2 .ensures .0) 66 (omega arith)
-
-equal-requires : tie.Need-equal-requires
-equal-requires c κs = search needs
-
-sub-equal-3 : tie.Need-sub-equal-3
-sub-equal-3 c = search needs
-
-part-equal-start-3 : tie.Need-part-equal-start-3
-part-equal-start-3 c = search needs
-
-part-equal-end-3 : tie.Need-part-equal-end-3
-part-equal-end-3 c =
-    let start = c .before .before .before .before .before .before .before in
-    column-there (now (start .args .file)) (start .args .i) (start .pre .0) (c .before .before .before .before .before .record-in .ensures .0) 111 (omega arith)
-
-sub-equal-4 : tie.Need-sub-equal-4
-sub-equal-4 c = search needs
-
-part-equal-start-4 : tie.Need-part-equal-start-4
-part-equal-start-4 c = search needs
-
-part-equal-end-4 : tie.Need-part-equal-end-4
-part-equal-end-4 c =
     let start = c .before .before .before .before .before .before .before .before in
     column-there (now (start .args .file)) (start .args .k) (start .pre .1) (c .before .before .before .before .before .record-in2 .ensures .0) 111 (omega arith)
 
-equal-requires-2 : tie.Need-equal-requires-2
-equal-requires-2 c κs = search needs
+equal-requires : tie.Need-equal-requires
+equal-requires c κs = search needs
 
 returns : tie.Need-returns
 returns c t =
@@ -76,8 +90,8 @@ returns c t =
     let mine = recordAt (now (a .file)) (a .k) in
     let their-bytes = c .before .before .before .before .before .before .before .before .record-in .ensures .0 in
     let my-bytes = c .before .before .before .before .before .before .before .record-in2 .ensures .0 in
-    let places : same (take 15 (drop 51 theirs)) (take 15 (drop 51 mine)) ≡ true = rw (their-bytes, my-bytes) at (sym (c .before .before .before .before .equal .ensures) ∙ c .before .before .before .if1 .taken) in
-    let heights : same (take 4 (drop 107 theirs)) (take 4 (drop 107 mine)) ≡ true = rw (their-bytes, my-bytes) at (sym (c .equal2 .ensures) ∙ t) in
+    let places : same (take 15 (drop 51 theirs)) (take 15 (drop 51 mine)) ≡ true = rw (their-bytes, my-bytes) at (sym (c .before .before .before .before .equal-words .ensures) ∙ c .before .before .before .if1 .taken) in
+    let heights : same (take 4 (drop 107 theirs)) (take 4 (drop 107 mine)) ≡ true = rw (their-bytes, my-bytes) at (sym (c .equal .ensures) ∙ t) in
     spelled-so (now (a .file)) (a .i) (a .k) (same-true _ _ places) (same-true _ _ heights)
 
 returns-2 : tie.Need-returns-2
@@ -89,6 +103,13 @@ spelled-alike-spec =
     (tie.spec
     record-in-requires
     record-in-requires-2
+    sub-equal-words
+    part-equal-words-start
+    part-equal-words-end
+    sub-equal-words-2
+    part-equal-words-start-2
+    part-equal-words-end-2
+    equal-words-requires
     sub-equal
     part-equal-start
     part-equal-end
@@ -96,12 +117,5 @@ spelled-alike-spec =
     part-equal-start-2
     part-equal-end-2
     equal-requires
-    sub-equal-3
-    part-equal-start-3
-    part-equal-end-3
-    sub-equal-4
-    part-equal-start-4
-    part-equal-end-4
-    equal-requires-2
     returns
     returns-2)

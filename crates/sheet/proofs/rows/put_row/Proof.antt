@@ -1,6 +1,6 @@
 -- `sheet::rows::put_row` meets its contract: the row stands in its own bytes, and the others are kept.
 use denote.Ref.{now}
-use mathlib.Core.Path.{_≡_, ap, _∙_}
+use mathlib.Core.Path.{_≡_, _∙_}
 use Prim.Native.Nat.{_+_, _*_, _-_}
 use native.Mathlib.Nat.{add-sub-cancel-left}
 use native.Mathlib.Omega.{arith}
@@ -9,16 +9,9 @@ use lib.Seq.{drop-drop}
 use borrow.Rule.Slice.PartMut.{mid-len, midOf}
 use Rattle.forms.specs.OwnForm.{rowWidth}
 use Rattle.forms.proofs.CopyLaws.{copy-all}
-use Rattle.sheet.specs.Sheets.{rowOf}
 use borrow.Author.Needs.{needs}
 use Rattle.sheet.proofs.rows.put_row.Statement.{statement}
 use Rattle.sheet.proofs.rows.put_row.Tie as tie
-
-add-station-row : tie.Need-add-station-row
-add-station-row c = search needs
-
-station-row-requires : tie.Need-station-row-requires
-station-row-requires c κs = search needs
 
 mul-start : tie.Need-mul-start
 mul-start c = search needs
@@ -45,25 +38,20 @@ same-length : tie.Need-same-length
 same-length c = search needs
 
 returns : tie.Need-returns
-unfolding rowOf
 returns c =
-    let a = c .before .before .before .before .before .before .before .before .before .args in
+    let a = c .before .before .before .before .before .before .args in
     let s = now (a .sheet) in
     let start = rowWidth * a .i in
-    let held = c .before .before .before .before .before .station-row in
-    let t = held .result in
-    let size : length t ≡ rowWidth = ap length (held .ensures .0) in
+    let t = a .t2 in
     let e : start + rowWidth - start ≡ rowWidth = add-sub-cancel-left start rowWidth in
     let l : length (midOf start (start + rowWidth - start) s) ≡ length t = mid-len start (start + rowWidth) s (search needs) ∙ (omega arith) in
     let f : c .before .before .copy .last .1 .0 ≡ t = c .before .before .copy .ensures .1 ∙ copy-all t _ l in
-    (rw (f, e, drop-drop rowWidth start s, held .ensures .0), held .ensures .1)
+    rw (f, e, drop-drop rowWidth start s)
 
 pub put-row-spec : {M : Type 1} → statement M
 put-row-spec =
     tie.close
     (tie.spec
-    add-station-row
-    station-row-requires
     mul-start
     add-end
     slice-aggregate-copy

@@ -20,8 +20,8 @@ abbrev μ-loop : tie.MeasureT-loop
 loop-holds : tie.Need-loop-holds Inv-loop μ-loop
 loop-holds c = search needs
 
-is-bad-requires : tie.Need-is-bad-requires Inv-loop μ-loop
-is-bad-requires c κs = search needs
+bad-row-requires : tie.Need-bad-row-requires Inv-loop μ-loop
+bad-row-requires c κs = search needs
 
 add-found : tie.Need-add-found Inv-loop μ-loop
 add-found c = search needs
@@ -54,7 +54,7 @@ bad-rows-spec =
     Inv-loop
     μ-loop
     loop-holds
-    is-bad-requires
+    bad-row-requires
     add-found
     add-i
     loop-less

@@ -22,8 +22,8 @@ loop-holds c = search needs
 add-k : tie.Need-add-k Inv-loop μ-loop
 add-k c = search needs
 
-is-bad-requires : tie.Need-is-bad-requires Inv-loop μ-loop
-is-bad-requires c κs = search needs
+bad-row-requires : tie.Need-bad-row-requires Inv-loop μ-loop
+bad-row-requires c κs = search needs
 
 cast-result : tie.Need-cast-result Inv-loop μ-loop
 cast-result c = search needs
@@ -56,7 +56,7 @@ lowest-bad-spec =
     μ-loop
     loop-holds
     add-k
-    is-bad-requires
+    bad-row-requires
     cast-result
     returns
     loop-less

@@ -1,9 +1,11 @@
 -- `verifying::comparing::right_in_row` meets its contract: the row as it is judged, beside what stands from its place on.
 use denote.Ref.{now}
-use mathlib.Core.Path.{_∙_}
-use Prim.Native.Nat.{_*_}
+use mathlib.Core.Path.{_≡_, refl, _∙_}
+use Prim.Native.Nat.{_+_, _-_, _*_}
+use native.Mathlib.Omega.{arith}
 use Rattle.columns.proofs.TextLaws.{from-on}
 use Rattle.forms.specs.OwnForm.{rowWidth}
+use Rattle.sheet.specs.Entered.{everybody}
 use borrow.Author.Needs.{needs}
 use Rattle.verifying.proofs.comparing.right_in_row.Statement.{statement}
 use Rattle.verifying.proofs.comparing.right_in_row.Tie as tie
@@ -12,7 +14,10 @@ add-station-row : tie.Need-add-station-row
 add-station-row c = search needs
 
 station-row-requires : tie.Need-station-row-requires
-station-row-requires c κs = search needs
+station-row-requires c κs =
+    let start = c .before .before .before .before .before .before .before .before in
+    let d : start .args .i + 1 - 1 ≡ start .args .i = omega arith in
+    (search needs, (search needs, rw d (record { parts = everybody; entered = start .pre .1 })))
 
 mul-start : tie.Need-mul-start
 mul-start c = search needs
@@ -34,8 +39,10 @@ alike-in-front-requires c κs = search needs
 
 returns : tie.Need-returns
 returns c =
-    let a = c .before .before .before .before .before .before .before .args in
-    let row = c .before .before .before .station-row .ensures in
+    let start = c .before .before .before .before .before .before .before .before .before .before .before .before in
+    let a = start .args in
+    let d : a .i + 1 - 1 ≡ a .i = omega arith in
+    let row = c .before .before .before .station-row .ensures everybody refl (rw d (start .pre .1)) in
     (c .alike-in-front .ensures ∙ rw (row .0, from-on (now (a .sheet)) (rowWidth * a .i)), row .1)
 
 pub right-in-row-spec : {M : Type 1} → statement M

@@ -6,10 +6,10 @@ use Prim.Native.Nat.{ℕ, _+_, _-_, _*_, _≤_, _<_}
 use lib.ListN.{drop}
 use Rattle.forms.specs.Counting.{rows}
 use Rattle.forms.specs.OwnForm.{form, rowWidth}
-use Rattle.clashes.specs.Kept.{Kept}
-use Rattle.clashes.proofs.KeptLaws.{none-kept}
 use Rattle.sheet.specs.Sheets.{rowOf}
+use Rattle.sheet.specs.Entered.{Entered, everybody}
 use Rattle.sheet.proofs.SheetLaws.{rows-wide}
+use Rattle.sheet.proofs.EnteredLaws.{none-entered}
 use Rattle.verifying.specs.Verifying.{alike}
 use Rattle.verifying.proofs.RightLaws.{row-right, row-wrong}
 use native.Mathlib.Omega.{arith}
@@ -18,10 +18,11 @@ use Rattle.verifying.proofs.comparing.right_in_rows.Statement.{statemen
 use Rattle.verifying.proofs.comparing.right_in_rows.Tie as tie
 
 abbrev Inv-loop : tie.InvT-loop
-Inv-loop file sheet n codes₀ i₀ codes i = (i ≤ n) × (alike (rows (rowOf file) i) sheet ≡ rowWidth * i) × Kept file codes
+Inv-loop file sheet n codes₀ heads₀ nexts₀ site-heads₀ site-nexts₀ seconds₀ i₀ codes heads nexts site-heads site-nexts seconds i =
+    (i ≤ n) × (alike (rows (rowOf file) i) sheet ≡ rowWidth * i) × Entered file everybody codes heads nexts site-heads site-nexts seconds i
 
 abbrev μ-loop : tie.MeasureT-loop
-μ-loop file sheet n codes₀ i₀ codes i = n - i
+μ-loop file sheet n codes₀ heads₀ nexts₀ site-heads₀ site-nexts₀ seconds₀ i₀ codes heads nexts site-heads site-nexts seconds i = n - i
 
 -- no row is right at first
 none-yet : (file sheet : List ℕ) → alike (rows (rowOf file) 0) sheet ≡ rowWidth * 0
@@ -31,7 +32,7 @@ none-yet file sheet = refl
 loop-holds : tie.Need-loop-holds Inv-loop μ-loop
 loop-holds c =
     let file = now (c .before .before .args .file) in
-    (omega arith, none-yet file (now (c .before .before .args .sheet)), none-kept file)
+    (omega arith, none-yet file (now (c .before .before .args .sheet)), none-entered file everybody (λ i j e. refl))
 
 right-in-row-requires : tie.Need-right-in-row-requires Inv-loop μ-loop
 right-in-row-requires c κs = search needs
@@ -44,7 +45,7 @@ add-result c = search needs
 
 returns : tie.Need-returns Inv-loop μ-loop
 returns c =
-    let l = c .before .before .before .before in
+    let l = c .before .before .before .before .before .before .before .before .before in
     let a = l .before .before .before .args in
     let file = now (a .file) in
     let sheet = now (a .sheet) in
@@ -61,7 +62,7 @@ loop-less c = search needs
 
 loop-again : tie.Need-loop-again Inv-loop μ-loop
 loop-again c =
-    let l = c .before .before .before .before in
+    let l = c .before .before .before .before .before .before .before .before .before in
     let a = l .before .before .before .args in
     let file = now (a .file) in
     let sheet = now (a .sheet) in
