@@ -1,9 +1,9 @@
 -- Chains, over any search: the first bearer of a key is found down the chain of its slot, and how a station goes in front.
 use mathlib.Core.Path.{_≡_, refl, sym, ap, _∙_}
 use mathlib.Core.Logic.{⊎-elim, dite}
-use mathlib.Core.Bool.{Bool, true, false, cond, _&&_, true≢false, and-eq-true-iff, and-false}
+use mathlib.Core.Bool.{Bool, true, false, cond, true≢false, and-eq-true-iff, and-false}
 use mathlib.Core.List.{List}
-use Prim.Native.Nat.{ℕ, zero, suc, _+_, _-_, _≤_, _<_}
+use Prim.Native.Nat.{ℕ, zero, suc, _-_, _≤_, _<_}
 use native.Mathlib.Nat.{le-refl, eq-or-lt-of-le}
 use native.Mathlib.Decide.{ℕ-discrete}
 use native.Mathlib.Omega.{arith}
@@ -65,10 +65,6 @@ first-past p m h = rw h (or-zero (first p m))
 module _ (s : Search) where
   -- Who bears a key takes part, and has it;
   module _ (k i : ℕ) where
-    pub bearer : s .takes i ≡ true → s .key i ≡ s .key k → bears s k i ≡ same (s .key k) (s .key k)
-    unfolding bears
-    bearer t e = rw (t, e)
-
     pub bears-takes : bears s k i ≡ true → s .takes i ≡ true
     unfolding bears
     bears-takes b = and-eq-true-iff (s .takes i) (same (s .key i) (s .key k)) .0 b .0

@@ -1,22 +1,22 @@
 -- Beside the first bearer of a key, the first that is unlike it: what they tell of one station more, and how they are kept.
-use mathlib.Core.Path.{_≡_, refl, sym, ap, _∙_}
-use mathlib.Core.Logic.{_⊎_, inl, inr, ⊎-elim, dite}
-use mathlib.Core.Bool.{Bool, true, false, cond, not, _&&_, true≢false, and-eq-true-iff, and-false}
+use mathlib.Core.Path.{_≡_, refl, sym, _∙_}
+use mathlib.Core.Logic.{_⊎_, inl, inr, ⊎-elim}
+use mathlib.Core.Bool.{Bool, true, false, cond, not, true≢false, and-eq-true-iff, and-false}
 use mathlib.Core.List.{List}
-use Prim.Native.Nat.{ℕ, zero, suc, _+_, _-_, _≤_, _<_}
+use Prim.Native.Nat.{ℕ, zero, suc, _-_, _≤_, _<_}
 use native.Mathlib.Nat.{eq-or-lt-of-le}
 use native.Mathlib.Numerals.{add-one}
 use native.Mathlib.Decide.{ℕ-discrete}
 use native.Mathlib.Omega.{arith}
-use lib.ListN.{length, getD, set, replicate, length-set, length-replicate, getD-replicate}
+use lib.ListN.{length, getD, set, replicate, length-set, length-replicate}
 use lib.Seq.{getD-set-same, getD-set-other}
 use Rattle.columns.specs.Texts.{same}
-use Rattle.columns.proofs.SameLaws.{same-refl, same-true}
+use Rattle.columns.proofs.SameLaws.{same-refl}
 use Rattle.forms.specs.Counting.{orElse, first}
 use Rattle.forms.proofs.CountLaws.{first-cong, first-found, first-most}
 use Rattle.chains.specs.Chains.{Search, bears, firstBearer, leads, recordNumbers}
 use Rattle.chains.specs.Seconds.{apart, Classes, Seconds}
-use Rattle.chains.proofs.ChainLaws.{first-kept, first-here, first-past, bears-key, bears-out, bears-like, is-leading, leads-takes, out-leads-none, later-leads-none, first-hit, bears-takes, bears-same}
+use Rattle.chains.proofs.ChainLaws.{first-kept, first-here, first-past, bears-key, bears-out, bears-like, is-leading, out-leads-none, later-leads-none, first-hit, bears-takes, bears-same}
 
 -- None so far, and then none: the last does not pass.
 none-before : (p : ℕ → Bool) (m : ℕ) → first p (suc m) ≡ 0 → (first p m ≡ 0) × (p (suc m) ≡ false)

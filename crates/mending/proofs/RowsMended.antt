@@ -1,22 +1,19 @@
 -- The rows that a replacement touches, as those that are written in a scope; and what a replaced station leaves.
-use mathlib.Core.Path.{_≡_, refl, sym, ap, _∙_}
-use mathlib.Core.Bool.{Bool, true, false, cond}
+use mathlib.Core.Path.{_≡_, refl, sym, _∙_}
+use mathlib.Core.Bool.{false}
 use mathlib.Core.List.{List, _++_}
-use Prim.Native.Nat.{ℕ, zero, suc, _+_, _-_, _*_, _≤_}
+use Prim.Native.Nat.{ℕ, zero, suc, _+_, _*_, _≤_}
 use native.Mathlib.Omega.{arith}
-use lib.ListN.{length, take, drop, length-drop}
-use lib.Seq.{length-take-le}
+use lib.ListN.{length, take, drop}
 use Rattle.files.specs.Files.{withRecord}
 use Rattle.forms.specs.Counting.{count, rows}
 use Rattle.stations.specs.Stations.{siteAt}
 use Rattle.forms.proofs.CountLaws.{count-cong, count-none}
 use Rattle.forms.specs.OwnForm.{rowWidth, headIn, withTrailer}
-use Rattle.sheet.specs.Sheets.{rowOf}
-use Rattle.forms.specs.Forms.{rowAt}
 use Rattle.mending.specs.Replacing.{touched, mendedRow, mendedSheet, writes, rowsWritten}
 use Rattle.forms.proofs.RowLaws.{RowsWide, rows-cong, take-rows}
 use Rattle.sheet.specs.Entered.{written, writtenRow}
-use Rattle.sheet.proofs.SheetLaws.{rows-wide}
+use Rattle.sheet.proofs.WrittenLaws.{either-wide}
 use Rattle.basics.specs.Fields.{recordLength}
 use Rattle.words.specs.Words.{wordOf}
 use Rattle.words.proofs.WordLaws.{Bytes, word-eqb}
@@ -28,12 +25,8 @@ use Rattle.chains.proofs.KeyLaws.{site-bytes, sites-same}
 module _ (file old : List ℕ) (k : ℕ) (sheet : List ℕ) where
   -- The rows of a mended sheet have their width.
   pub mended-wide : (n : ℕ) → rowWidth * n ≤ length sheet → RowsWide rowWidth (mendedRow file old k sheet) n
-  unfolding mendedRow rowAt
-  mended-wide n room i h = by-case (touched file old k (suc i))
-    where
-      by-case : (b : Bool) → length (cond b (rowOf file (suc i)) (take rowWidth (drop (rowWidth * (suc i - 1)) sheet))) ≡ rowWidth
-      by-case true = rows-wide file n i h
-      by-case false = length-take-le rowWidth (drop (rowWidth * (suc i - 1)) sheet) (rw length-drop (omega arith))
+  unfolding mendedRow
+  mended-wide n room i h = either-wide (touched file old k) file sheet n room i h
 
 -- The rows that are touched are those that are written from k on in the scope of the old site and the new one.
 module _ (file old : List ℕ) (k : ℕ) (b : Bytes file) (bo : Bytes old) (six : length old ≡ 6) (there : recordLength * k + recordLength ≤ length file) where

@@ -2,7 +2,7 @@
 use mathlib.Core.Path.{_≡_, refl, sym, ap, _∙_}
 use mathlib.Core.Bool.{Bool, true, false, cond, _&&_, and-false}
 use mathlib.Core.List.{List, [], _∷_}
-use Prim.Native.Nat.{ℕ, zero, suc, _+_, _-_, _≤_}
+use Prim.Native.Nat.{ℕ, suc, _+_, _-_}
 use native.Mathlib.Decide.{ℕ-discrete}
 use native.Mathlib.Omega.{arith}
 use lib.Dec.{eqb}
@@ -17,13 +17,13 @@ use Rattle.forms.specs.Forms.{rowBytes}
 use Rattle.forms.specs.OwnForm.{form}
 use Rattle.forms.proofs.CountLaws.{first-cong}
 use Rattle.chains.specs.declared.keys.Scope.{Scope}
-use Rattle.chains.specs.Chains.{bears, firstBearer, slots, recordNumbers, Chains}
+use Rattle.chains.specs.Chains.{bears, firstBearer, slots, recordNumbers}
 use Rattle.chains.specs.Keys.{keyAt}
 use Rattle.chains.specs.Scopes.{inScope}
-use Rattle.chains.proofs.ChainLaws.{none-chained, out-leads-none, left-out, is-leading, later-leads-none}
+use Rattle.chains.proofs.ChainLaws.{none-chained, out-leads-none, left-out}
 use Rattle.clashes.specs.Clashes.{clashAt}
-use Rattle.clashes.specs.Kept.{unjudged, Kept}
-use Rattle.clashes.specs.Sites.{GoodTakesPart, firstElsewhere, Sites}
+use Rattle.clashes.specs.Kept.{unjudged}
+use Rattle.clashes.specs.Sites.{GoodTakesPart, firstElsewhere}
 use Rattle.clashes.proofs.KeptLaws.{none-kept}
 use Rattle.clashes.proofs.ClashLaws.{own-broken, own-good}
 use Rattle.clashes.proofs.SiteLaws.{no-sites, site-out}

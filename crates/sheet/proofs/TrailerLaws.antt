@@ -1,18 +1,18 @@
 -- The rows that a trailer counts: a row is bad if the sum of its bytes is not 0, and where none is bad there is no lowest.
-use mathlib.Core.Path.{_≡_, refl, sym, ap, _∙_}
-use mathlib.Core.Bool.{Bool, true, false, cond, not, _&&_, and-eq-true-iff}
+use mathlib.Core.Path.{_≡_, refl}
+use mathlib.Core.Bool.{Bool, true, false, cond, not, _&&_}
 use mathlib.Core.List.{List, [], _∷_}
-use Prim.Native.Nat.{ℕ, zero, suc, _+_, _-_, _*_, _≤_, _<_}
+use Prim.Native.Nat.{ℕ, zero, suc, _+_, _-_, _*_, _≤_}
 use native.Mathlib.Decide.{ℕ-discrete}
 use native.Mathlib.Omega.{arith}
 use lib.Dec.{eqb}
 use lib.ListN.{length, getD, take, drop}
-use lib.Seq.{drop-cons}
-use borrow.Author.Tests.{eq-eqb, ne-eqb, eqb-true}
+use borrow.Author.Tests.{eq-eqb, ne-eqb}
 use Rattle.columns.specs.Texts.{every}
+use Rattle.words.proofs.WordLaws.{take-next}
 use Rattle.forms.specs.Counting.{orElse, first, count}
 use Rattle.forms.specs.Forms.{rowAt, badAt}
-use Rattle.forms.specs.OwnForm.{form, bad, rowWidth}
+use Rattle.forms.specs.OwnForm.{bad, rowWidth}
 
 -- Where none passes there is no first.
 pub count-first : (p : ℕ → Bool) (n : ℕ) → count p n ≡ 0 → first p n ≡ 0
@@ -24,17 +24,15 @@ count-first p (suc n) e = by-case (p (suc n)) e (count-first p n)
     by-case false z ih = let none : first p n ≡ 0 = ih (omega arith) in rw none
 
 -- five bytes, one by one
-next : (s : List ℕ) (a b n : ℕ) → b ≡ suc a → a < length s → take (suc n) (drop a s) ≡ getD s a 0 ∷ take n (drop b s)
-next s a b n e h = rw (drop-cons s a 0 h, e)
-
 five : (s : List ℕ) (at : ℕ) → at + 5 ≤ length s → take 5 (drop at s) ≡ getD s at 0 ∷ getD s (at + 1) 0 ∷ getD s (at + 2) 0 ∷ getD s (at + 3) 0 ∷ getD s (at + 4) 0 ∷ []
 five s at h =
-    let e0 : take 5 (drop at s) ≡ getD s at 0 ∷ take 4 (drop (at + 1) s) = next s at (at + 1) 4 (omega arith) (omega arith) in
-    let e1 : take 4 (drop (at + 1) s) ≡ getD s (at + 1) 0 ∷ take 3 (drop (at + 2) s) = next s (at + 1) (at + 2) 3 (omega arith) (omega arith) in
-    let e2 : take 3 (drop (at + 2) s) ≡ getD s (at + 2) 0 ∷ take 2 (drop (at + 3) s) = next s (at + 2) (at + 3) 2 (omega arith) (omega arith) in
-    let e3 : take 2 (drop (at + 3) s) ≡ getD s (at + 3) 0 ∷ take 1 (drop (at + 4) s) = next s (at + 3) (at + 4) 1 (omega arith) (omega arith) in
-    let e4 : take 1 (drop (at + 4) s) ≡ getD s (at + 4) 0 ∷ take 0 (drop (at + 5) s) = next s (at + 4) (at + 5) 0 (omega arith) (omega arith) in
-    rw (e0, e1, e2, e3, e4)
+    rw (
+      take-next s at (at + 1) 4 (omega arith) (omega arith),
+      take-next s (at + 1) (at + 2) 3 (omega arith) (omega arith),
+      take-next s (at + 2) (at + 3) 2 (omega arith) (omega arith),
+      take-next s (at + 3) (at + 4) 1 (omega arith) (omega arith),
+      take-next s (at + 4) (at + 5) 0 (omega arith) (omega arith),
+    )
 
 -- a sum is 0 where both are
 both-zero : (a b : ℕ) → eqb (a + b) 0 ≡ (eqb a 0 && eqb b 0)

@@ -1,6 +1,6 @@
 -- One more row written where it is in scope, and kept where it is not.
-use mathlib.Core.Path.{_≡_, refl, sym, ap, _∙_}
-use mathlib.Core.Bool.{Bool, true, false, cond, _&&_, and-false}
+use mathlib.Core.Path.{_≡_, sym, ap, _∙_}
+use mathlib.Core.Bool.{Bool, true, false, cond, and-false}
 use mathlib.Core.List.{List, _++_}
 use Prim.Native.Nat.{ℕ, suc, _+_, _-_, _*_, _≤_, _<_}
 use native.Mathlib.Omega.{arith}
@@ -10,13 +10,22 @@ use lib.Seq.{length-take-le}
 use borrow.Author.Tests.{le-leb, lt-leb}
 use Rattle.forms.specs.Counting.{rows}
 use Rattle.forms.specs.Forms.{rowAt}
-use Rattle.forms.specs.OwnForm.{rowWidth}
+use Rattle.forms.specs.OwnForm.{rowWidth, rowIn}
 use Rattle.forms.proofs.RowLaws.{RowsWide, rows-cong, row-put, row-kept}
 use Rattle.chains.specs.declared.keys.Scope.{Scope}
 use Rattle.chains.specs.Scopes.{inScope}
 use Rattle.sheet.specs.Sheets.{rowOf}
 use Rattle.sheet.specs.Entered.{scoped, written, writtenRow}
 use Rattle.sheet.proofs.SheetLaws.{rows-wide}
+
+-- Rows that have their value for the file or stand in the sheet have their width.
+pub either-wide : (test : ℕ → Bool) (file sheet : List ℕ) (n : ℕ) → rowWidth * n ≤ length sheet → RowsWide rowWidth (λ j. cond (test j) (rowOf file j) (rowIn sheet j)) n
+unfolding rowAt
+either-wide test file sheet n room i h = by-case (test (suc i))
+  where
+    by-case : (b : Bool) → length (cond b (rowOf file (suc i)) (take rowWidth (drop (rowWidth * (suc i - 1)) sheet))) ≡ rowWidth
+    by-case true = rows-wide file n i h
+    by-case false = length-take-le rowWidth (drop (rowWidth * (suc i - 1)) sheet) (rw length-drop (omega arith))
 
 module _ (scope : Scope) (from : ℕ) (file : List ℕ) where
   -- A row is written from the number on where it is in scope,
@@ -34,13 +43,9 @@ module _ (scope : Scope) (from : ℕ) (file : List ℕ) where
 
   module _ (sheet : List ℕ) where
     -- and all rows have their width.
-    pub written-wide : (n : ℕ) → rowWidth * n ≤ length sheet → RowsWide rowWidth (writtenRow scope from file sheet) n
-    unfolding writtenRow rowAt
-    written-wide n room i h = by-case (written scope from file (suc i))
-      where
-        by-case : (b : Bool) → length (cond b (rowOf file (suc i)) (take rowWidth (drop (rowWidth * (suc i - 1)) sheet))) ≡ rowWidth
-        by-case true = rows-wide file n i h
-        by-case false = length-take-le rowWidth (drop (rowWidth * (suc i - 1)) sheet) (rw length-drop (omega arith))
+    written-wide : (n : ℕ) → rowWidth * n ≤ length sheet → RowsWide rowWidth (writtenRow scope from file sheet) n
+    unfolding writtenRow
+    written-wide n room i h = either-wide (written scope from file) file sheet n room i h
 
     -- a row that is written has its value for the file
     written-so : (j : ℕ) → written scope from file j ≡ true → writtenRow scope from file sheet j ≡ rowOf file j

@@ -30,9 +30,9 @@ word-same (x ∷ a) (y ∷ b) l ha hb e =
     let d : x ≡ y = h .0 in
     cc
 
--- eight bytes, one by one
-next : (s : List ℕ) (a b n : ℕ) → b ≡ suc a → a < length s → take (suc n) (drop a s) ≡ getD s a 0 ∷ take n (drop b s)
-next s a b n e h = rw (drop-cons s a 0 h, e)
+-- A text from a place on, byte by byte.
+pub take-next : (s : List ℕ) (a b n : ℕ) → b ≡ suc a → a < length s → take (suc n) (drop a s) ≡ getD s a 0 ∷ take n (drop b s)
+take-next s a b n e h = rw (drop-cons s a 0 h, e)
 
 pub word-bytes : (s : List ℕ) (at : ℕ) → at + 8 ≤ length s
     → wordAt s at
@@ -40,15 +40,17 @@ pub word-bytes : (s : List ℕ) (at : ℕ) → at + 8 ≤ length s
     + 1099511627776 * getD s (at + 5) 0 + 281474976710656 * getD s (at + 6) 0 + 72057594037927936 * getD s (at + 7) 0
 unfolding wordAt
 word-bytes s at h =
-    let e0 : take 8 (drop at s) ≡ getD s at 0 ∷ take 7 (drop (at + 1) s) = next s at (at + 1) 7 (omega arith) (omega arith) in
-    let e1 : take 7 (drop (at + 1) s) ≡ getD s (at + 1) 0 ∷ take 6 (drop (at + 2) s) = next s (at + 1) (at + 2) 6 (omega arith) (omega arith) in
-    let e2 : take 6 (drop (at + 2) s) ≡ getD s (at + 2) 0 ∷ take 5 (drop (at + 3) s) = next s (at + 2) (at + 3) 5 (omega arith) (omega arith) in
-    let e3 : take 5 (drop (at + 3) s) ≡ getD s (at + 3) 0 ∷ take 4 (drop (at + 4) s) = next s (at + 3) (at + 4) 4 (omega arith) (omega arith) in
-    let e4 : take 4 (drop (at + 4) s) ≡ getD s (at + 4) 0 ∷ take 3 (drop (at + 5) s) = next s (at + 4) (at + 5) 3 (omega arith) (omega arith) in
-    let e5 : take 3 (drop (at + 5) s) ≡ getD s (at + 5) 0 ∷ take 2 (drop (at + 6) s) = next s (at + 5) (at + 6) 2 (omega arith) (omega arith) in
-    let e6 : take 2 (drop (at + 6) s) ≡ getD s (at + 6) 0 ∷ take 1 (drop (at + 7) s) = next s (at + 6) (at + 7) 1 (omega arith) (omega arith) in
-    let e7 : take 1 (drop (at + 7) s) ≡ getD s (at + 7) 0 ∷ take 0 (drop (at + 8) s) = next s (at + 7) (at + 8) 0 (omega arith) (omega arith) in
-    rw (e0, e1, e2, e3, e4, e5, e6, e7) (omega arith)
+    rw (
+      take-next s at (at + 1) 7 (omega arith) (omega arith),
+      take-next s (at + 1) (at + 2) 6 (omega arith) (omega arith),
+      take-next s (at + 2) (at + 3) 5 (omega arith) (omega arith),
+      take-next s (at + 3) (at + 4) 4 (omega arith) (omega arith),
+      take-next s (at + 4) (at + 5) 3 (omega arith) (omega arith),
+      take-next s (at + 5) (at + 6) 2 (omega arith) (omega arith),
+      take-next s (at + 6) (at + 7) 1 (omega arith) (omega arith),
+      take-next s (at + 7) (at + 8) 0 (omega arith) (omega arith),
+    )
+    (omega arith)
 
 -- Some bytes of bytes are bytes.
 pub bytes-take : (n : ℕ) (s : List ℕ) → Bytes s → Bytes (take n s)
@@ -120,13 +122,15 @@ six-bytes : (s : List ℕ) (at : ℕ) → at + 6 ≤ length s
     → wordOf (take 6 (drop at s))
     ≡ getD s at 0 + 256 * getD s (at + 1) 0 + 65536 * getD s (at + 2) 0 + 16777216 * getD s (at + 3) 0 + 4294967296 * getD s (at + 4) 0 + 1099511627776 * getD s (at + 5) 0
 six-bytes s at h =
-    let e0 : take 6 (drop at s) ≡ getD s at 0 ∷ take 5 (drop (at + 1) s) = next s at (at + 1) 5 (omega arith) (omega arith) in
-    let e1 : take 5 (drop (at + 1) s) ≡ getD s (at + 1) 0 ∷ take 4 (drop (at + 2) s) = next s (at + 1) (at + 2) 4 (omega arith) (omega arith) in
-    let e2 : take 4 (drop (at + 2) s) ≡ getD s (at + 2) 0 ∷ take 3 (drop (at + 3) s) = next s (at + 2) (at + 3) 3 (omega arith) (omega arith) in
-    let e3 : take 3 (drop (at + 3) s) ≡ getD s (at + 3) 0 ∷ take 2 (drop (at + 4) s) = next s (at + 3) (at + 4) 2 (omega arith) (omega arith) in
-    let e4 : take 2 (drop (at + 4) s) ≡ getD s (at + 4) 0 ∷ take 1 (drop (at + 5) s) = next s (at + 4) (at + 5) 1 (omega arith) (omega arith) in
-    let e5 : take 1 (drop (at + 5) s) ≡ getD s (at + 5) 0 ∷ take 0 (drop (at + 6) s) = next s (at + 5) (at + 6) 0 (omega arith) (omega arith) in
-    rw (e0, e1, e2, e3, e4, e5) (omega arith)
+    rw (
+      take-next s at (at + 1) 5 (omega arith) (omega arith),
+      take-next s (at + 1) (at + 2) 4 (omega arith) (omega arith),
+      take-next s (at + 2) (at + 3) 3 (omega arith) (omega arith),
+      take-next s (at + 3) (at + 4) 2 (omega arith) (omega arith),
+      take-next s (at + 4) (at + 5) 1 (omega arith) (omega arith),
+      take-next s (at + 5) (at + 6) 0 (omega arith) (omega arith),
+    )
+    (omega arith)
 
 pub six-bytes-in-all : (s : List ℕ) → length s ≡ 6
     → wordOf s ≡ getD s 0 0 + 256 * getD s 1 0 + 65536 * getD s 2 0 + 16777216 * getD s 3 0 + 4294967296 * getD s 4 0 + 1099511627776 * getD s 5 0

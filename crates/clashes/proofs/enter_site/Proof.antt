@@ -1,7 +1,6 @@
 -- `clashes::enter_site` meets its contract: the site is new, or the station stands as its first does, or it does not.
 use denote.Ref.{now}
-use mathlib.Core.Path.{_≡_, sym, _∙_}
-use Prim.Native.Nat.{_≤_, _-_}
+use mathlib.Core.Path.{sym, _∙_}
 use native.Mathlib.Omega.{arith}
 use Rattle.clashes.proofs.SiteLaws.{bearer-most, none-elsewhere, site-alike, site-unlike}
 use borrow.Author.Needs.{needs}

@@ -1,10 +1,9 @@
 -- `chains::chaining::walk` meets its contract: from one station of the chain to the next, whoever takes part.
 use denote.Ref.{now}
 use mathlib.Core.Path.{_≡_, sym, _∙_}
-use Prim.Native.Nat.{_≤_, _<_}
+use Prim.Native.Nat.{_<_}
 use native.Mathlib.Omega.{arith}
 use Rattle.chains.proofs.WalkLaws.{Way, way-begins, way-below, way-hit, way-less, way-miss}
-use borrow.Author.Needs.{needs}
 use Rattle.chains.proofs.chaining.walk.Statement.{statement}
 use Rattle.chains.proofs.chaining.walk.Tie as tie
 

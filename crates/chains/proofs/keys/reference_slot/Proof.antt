@@ -1,5 +1,4 @@
 -- `chains::keys::reference_slot` meets its contract: its first and its last eight bytes.
-use mathlib.Core.Path.{_≡_}
 use native.Mathlib.Omega.{arith}
 use Rattle.chains.specs.Keys.{referenceSlot}
 use borrow.Author.Needs.{needs}

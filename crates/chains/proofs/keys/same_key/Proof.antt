@@ -1,5 +1,4 @@
 -- `chains::keys::same_key` meets its contract, key by key.
-use denote.Ref.{now}
 use mathlib.Core.Path.{_≡_, sym, ap, _∙_}
 use mathlib.Core.Bool.{Bool}
 use mathlib.Core.List.{List}

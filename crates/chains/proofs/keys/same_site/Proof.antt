@@ -1,6 +1,5 @@
 -- `chains::keys::same_site` meets its contract: equal numbers are equal bytes.
 use denote.Ref.{now}
-use mathlib.Core.Path.{_∙_}
 use native.Mathlib.Omega.{arith}
 use Rattle.chains.proofs.KeyLaws.{sites-same}
 use borrow.Author.Needs.{needs}

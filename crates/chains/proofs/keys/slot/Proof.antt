@@ -1,5 +1,4 @@
 -- `chains::keys::slot` meets its contract, key by key.
-use denote.Ref.{now}
 use mathlib.Core.Path.{_≡_, sym, ap, _∙_}
 use mathlib.Core.List.{List}
 use Prim.Native.Nat.{ℕ, _%_}

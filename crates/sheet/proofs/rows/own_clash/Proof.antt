@@ -1,6 +1,5 @@
 -- `sheet::rows::own_clash` meets its contract.
 use borrow.Author.Tests.{eq-eqb, ne-eqb}
-use borrow.Author.Needs.{needs}
 use Rattle.sheet.proofs.rows.own_clash.Statement.{statement}
 use Rattle.sheet.proofs.rows.own_clash.Tie as tie
 

@@ -1,6 +1,5 @@
 -- `sheet::trailers::bad_row` meets its contract: the sum of its bytes is not 0.
 use denote.Ref.{now}
-use mathlib.Core.Path.{_≡_}
 use Rattle.sheet.proofs.TrailerLaws.{bad-sum}
 use borrow.Author.Needs.{needs}
 use Rattle.sheet.proofs.trailers.bad_row.Statement.{statement}
