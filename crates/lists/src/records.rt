@@ -4,7 +4,7 @@ use crate::writing_lines::write_spelled;
 use basics::Outcome;
 use basics::outcomes::is_done;
 use judging::check_station;
-use respelling::in_place::put_respelled;
+use own_spelling::put_respelled;
 use semicolons::filling::put_fields;
 use semicolons::splitting::is_line;
 ghost use mathlib.Core.Path.{_≡_};

@@ -1,3 +1,2 @@
 pub mod Respelling
 pub mod Promises
-pub mod OwnSpelling

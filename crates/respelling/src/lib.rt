@@ -1,18 +1,15 @@
 // A record in its one spelling.
-use crate::in_place::put_respelled;
 use basics::Outcome;
 use basics::outcomes::is_done;
 use files::lengths::RECORD_LENGTH;
 use header_reading::read_header;
 use header_writing::put_header;
 use judging::check_station;
+use own_spelling::put_respelled;
 ghost use mathlib.Core.Path.{_≡_};
 ghost use mathlib.Core.List.{[], _∷_};
 ghost use Rattle.basics.specs.Outcomes.{firstRefusal, recordTest, bufferTest};
 ghost use Rattle.respelling.specs.Promises.{StationRespelled, HeaderRespelled};
-
-pub mod in_place;
-mod numbers;
 
 // Whether a record and a buffer have a record's length: 6, then 7, or done.
 fn check_lengths(rec: &[u8], out: &[u8]) -> Outcome

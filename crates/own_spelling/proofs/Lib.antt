@@ -1,0 +1,4 @@
+mod OwnLaws
+mod OwnPlaces
+mod StayLaws
+mod InPlaceLaws
