@@ -255,3 +255,12 @@ pub skip-spaces : (n : ℕ) → skip (replicate n 32) ≡ []
 unfolding skip
 skip-spaces zero = refl
 skip-spaces (suc n) = skip-spaces n
+
+-- and what is blank is spaces
+pub blank-spaces : (p : List ℕ) → blank p ≡ true → replicate (length p) 32 ≡ p
+unfolding skip
+blank-spaces [] e = refl
+blank-spaces (c ∷ p) e = by (eqb c 32) refl (blank-spaces p) e where
+  by : (b : Bool) → eqb c 32 ≡ b → (blank p ≡ true → replicate (length p) 32 ≡ p) → ended (cond b (skip p) (c ∷ p)) ≡ true → 32 ∷ replicate (length p) 32 ≡ c ∷ p
+  by true q on e = rw (eqb-true c 32 q) (ap (λ (l : List ℕ). 32 ∷ l) (on e))
+  by false q on e = absurd (false≢true e)

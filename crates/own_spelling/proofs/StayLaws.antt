@@ -9,7 +9,7 @@ use lib.ListN.{length, take, drop, replicate, length-drop, take-append-drop}
 use lib.Seq.{length-take-le, take-all, drop-drop}
 use borrow.Author.Tests.{eqb-true}
 use Rattle.columns.specs.Sets.{is, among, isDigit}
-use Rattle.columns.specs.Texts.{head, ended, skip, blank, every, each, byteGood}
+use Rattle.columns.specs.Texts.{head, skip, blank, every, each, byteGood}
 use Rattle.flaws.specs.Flaws.{unread}
 use Rattle.numerals.specs.Numbers.{number, passes, inSign, unsigned, spellDigits}
 use Rattle.decimals.specs.Decimals.{magnitudeOf, admitsDecimal, decimalOf, spellDecimal}
@@ -22,7 +22,7 @@ use Rattle.numerals.specs.declared.Whole.{Whole}
 use Rattle.numerals.specs.declared.Whole.the-variants as whole
 use Rattle.numerals.specs.declared.Signed.{Signed}
 use Rattle.numerals.specs.declared.Signed.the-variants as signed
-use Rattle.columns.proofs.TextLaws.{and-split, each-replicate, every-take, every-drop}
+use Rattle.columns.proofs.TextLaws.{and-split, each-replicate, every-take, every-drop, blank-spaces}
 use Rattle.columns.proofs.ColumnLaws.{either}
 use Rattle.own_spelling.proofs.OwnLaws.{digits-own}
 
@@ -38,15 +38,6 @@ byte-is : (test : ℕ → Bool) (p : List ℕ) → byteGood test p ≡ true → 
 unfolding byteGood each
 byte-is test [] e = absurd (false≢true e)
 byte-is test (c ∷ p) e = and-split (test c) (each [] p) e .0
-
--- spaces are all of a blank field
-blank-is : (p : List ℕ) → blank p ≡ true → replicate (length p) 32 ≡ p
-unfolding skip
-blank-is [] e = refl
-blank-is (c ∷ p) e = by (eqb c 32) refl (blank-is p) e where
-  by : (b : Bool) → eqb c 32 ≡ b → (blank p ≡ true → replicate (length p) 32 ≡ p) → ended (cond b (skip p) (c ∷ p)) ≡ true → 32 ∷ replicate (length p) 32 ≡ c ∷ p
-  by true q on e = rw (eqb-true c 32 q) (ap (λ (l : List ℕ). 32 ∷ l) (on e))
-  by false q on e = absurd (false≢true e)
 
 -- Eight digits are the spelling of the date that they say,
 eight-own : (p : List ℕ) → length p ≡ 8 → every isDigit p ≡ true → spellDate (dateIn p) ≡ p
@@ -71,7 +62,7 @@ day-stays p n e = by (blank p) refl (each (replicate 8 isDigit) p) refl (dateRul
   by : (b : Bool) → blank p ≡ b → (r : Bool) → each (replicate 8 isDigit) p ≡ r → (d : Bool)
       → dayPasses (cond b dated.Blank (cond (r && d) (dated.Filled (dateIn p)) (dated.Bad (unreadDate p)))) ≡ true
       → spellDay (inDay (cond b dated.Blank (cond (r && d) (dated.Filled (dateIn p)) (dated.Bad (unreadDate p))))) ≡ p
-  by true q r f d e = ap (λ (k : ℕ). replicate k 32) (sym n) ∙ blank-is p q
+  by true q r f d e = ap (λ (k : ℕ). replicate k 32) (sym n) ∙ blank-spaces p q
   by false q true f true e = eight-own p n (and-split (eqb (length p) 8) (every isDigit p) (sym (each-replicate 8 isDigit p) ∙ f) .1)
   by false q true f false e = absurd (false≢true e)
   by false q false f d e = absurd (false≢true e)

@@ -9,9 +9,8 @@ use lib.Dec.{eqb}
 use lib.ListN.{length, replicate}
 use borrow.Author.Tests.{eqb-true}
 use Rattle.columns.specs.Sets.{is}
-use Rattle.columns.specs.Texts.{head, ended, skip, blank, trimmed}
-use Rattle.columns.proofs.TextLaws.{cond-case}
-use Rattle.columns.proofs.TextLaws.{skip-spaces}
+use Rattle.columns.specs.Texts.{head, skip, blank, trimmed}
+use Rattle.columns.proofs.TextLaws.{cond-case, skip-spaces, blank-spaces}
 use Rattle.semicolons.specs.Fields.{trimmedField, missing, paddedField}
 use Rattle.semicolons.specs.declared.Side.{Side}
 use Rattle.semicolons.specs.declared.Side.the-variants as side
@@ -38,17 +37,6 @@ skip-pads (c ∷ p) = by (eqb c 32) refl (skip-pads p) where
       let n : suc (length p) - length (skip p) ≡ suc (length p - length (skip p)) = omega (arith, skip-shorter p) in
       rw n (ap (λ (l : List ℕ). 32 ∷ l) back ∙ ap (λ (x : ℕ). x ∷ p) (sym (eqb-true c 32 e)))
   by false e back = rw (sub-self (suc (length p)))
-
--- nothing is left of spaces alone
-pub ended-nothing : (t : List ℕ) → ended t ≡ true → t ≡ []
-ended-nothing [] e = refl
-ended-nothing (c ∷ t) e = absurd (false≢true e)
-
-pub blank-spaces : (p : List ℕ) → blank p ≡ true → replicate (length p) 32 ≡ p
-blank-spaces p e =
-    let n : skip p ≡ [] = ended-nothing (skip p) e in
-    let back : replicate (length p - length (skip p)) 32 ++ skip p ≡ p = skip-pads p in
-    rw (n, sub-zero, append-nil) at back
 
 -- those that stood last, put back behind
 pub trim-pads : (p : List ℕ) → trimmed p ++ missing (length p) (trimmed p) ≡ p

@@ -10,7 +10,7 @@ use lib.Seq.{drop-cons, drop-drop, length-take-le}
 use borrow.Author.Tests.{eqb-true, not-true}
 use Rattle.columns.specs.Sets.{is, among, between, isDigit, isText, isHex}
 use Rattle.columns.specs.Texts.{head, skip, blank, trimmed, every, each, oneOf, sized, howMany}
-use Rattle.columns.proofs.TextLaws.{and-split, and-both}
+use Rattle.columns.proofs.TextLaws.{and-split, and-both, blank-spaces}
 use Rattle.numerals.proofs.NumberLaws.{digit-range}
 use Rattle.columns.proofs.ColumnLaws.{either}
 use Rattle.emissions.specs.Emission.{bandwidthGood, isModulation, isSignal, isInformation, isDetail, isMultiplex, detailGood, emissionGood}
@@ -20,7 +20,7 @@ use Rattle.fields.proofs.KindLaws.{text-wide, remarks-wide}
 use Rattle.columns.proofs.TrimLaws.{filled-cons}
 use Rattle.semicolons.specs.Fields.{missing}
 use Rattle.semicolons.specs.declared.Side.the-variants as side
-use Rattle.semicolons.proofs.PadLaws.{skip-pads, trim-pads, blank-spaces}
+use Rattle.semicolons.proofs.PadLaws.{skip-pads, trim-pads}
 use Rattle.semicolons.proofs.LineLaws.{plain}
 use Rattle.semicolons.proofs.PieceLaws.{Piece, solid, refusesMarks, refusesSpaces, not-this, plain-byte, solid-byte, every-more, every-append, spaces-plain, solid-plain}
 use Rattle.semicolons.proofs.FieldPieces.{opens, open-piece, one-passes, allRefuse, each-opens}
