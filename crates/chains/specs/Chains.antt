@@ -1,11 +1,12 @@
 -- The first station before another that bears its key, among those that take part; and chains of the first bearers, one for each slot.
-use Prim.Native.Nat.{ℕ, zero, suc, _-_, _<_}
+use Prim.Native.Nat.{ℕ, zero, suc, _+_, _-_, _<_}
 use mathlib.Core.Path.{_≡_}
 use mathlib.Core.Bool.{Bool, true, cond, _&&_}
 use mathlib.Core.List.{List}
 use lib.ListN.{length, getD}
 use lib.Dec.{eqb}
 use Rattle.columns.specs.Texts.{same}
+use Rattle.files.specs.Files.{mostStations}
 use Rattle.forms.specs.Counting.{first}
 
 -- A search: which stations take part, the key of each, and the slot of a key.
@@ -40,7 +41,7 @@ abbrev pub slots : ℕ
 slots = 256
 
 abbrev pub recordNumbers : ℕ
-recordNumbers = 299
+recordNumbers = mostStations + 1
 
 -- Each station to m that is in a chain has the next lower one of its chain in nexts, or 0.
 unfoldable pub Linked : Search → List ℕ → ℕ → Type 0

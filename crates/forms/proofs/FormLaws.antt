@@ -6,7 +6,8 @@ use Prim.Native.Nat.{ℕ, zero, suc, _+_, _-_, _*_, _/_, _%_, _≤_, _<_}
 use native.Mathlib.Nat.{div-add-mod', mul-suc, mul-zero, mul-le-mul-left}
 use native.Mathlib.Omega.{arith}
 use lib.ListN.{length, getD, take, drop, length-append, length-drop}
-use lib.Seq.{drop-drop, drop-at, take-at, getD-append-add, take-append-le, drop-append-le, take-take, getD-take, getD-drop}
+use lib.Seq.{drop-drop, drop-at, take-at, getD-append-add, take-append-le, drop-append-le, getD-take, getD-drop}
+use Rattle.words.proofs.WordLaws.{part-of-front}
 use Rattle.columns.specs.Texts.{same}
 use Rattle.forms.specs.Counting.{first, count}
 use Rattle.forms.specs.Forms.{Form, codeIn, numberIn, spread, number, numbers, valueFrom, rowBytes, trailerBytes, sheetBytes, rowAt, badAt, shape, trailerOf, closed, headAt, lowestAt, foundAt, fitsForm}
@@ -34,13 +35,6 @@ value-spread (suc b) x t = value-spread b (x / 256) (x % 256 ∷ t) ∙ ap (λ (
 pub number-back : (b x : ℕ) → 1 ≤ b → valueFrom 0 (number b x) ≡ x
 number-back zero x h = absurd (omega arith)
 number-back (suc b) x h = value-spread b x []
-
--- a part that lies in the front
-part-of-front : (b a w : ℕ) (l : List ℕ) → a + b ≤ w → take b (drop a (take w l)) ≡ take b (drop a l)
-part-of-front b zero w l h = take-take b w l (omega arith)
-part-of-front b (suc a) zero l h = absurd (omega arith)
-part-of-front b (suc a) (suc w) [] h = refl
-part-of-front b (suc a) (suc w) (x ∷ l) h = part-of-front b a w l (omega arith)
 
 -- Number q of numbers one after the other.
 pub numbers-back : (b : ℕ) (xs : List ℕ) (q : ℕ) → 1 ≤ b → q < length xs → valueFrom 0 (take b (drop (b * q) (numbers b xs))) ≡ getD xs q 0

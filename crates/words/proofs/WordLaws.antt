@@ -106,7 +106,7 @@ word-eqb a b l ha hb =
     is-same a b (eqb (wordOf a) (wordOf b)) (λ t. word-same a b l ha hb (eqb-true (wordOf a) (wordOf b) t)) (λ e. eq-eqb (wordOf a) (wordOf b) (ap wordOf e))
 
 -- a part of the front
-part-of-front : (n i w : ℕ) (s : List ℕ) → i + n ≤ w → take n (drop i (take w s)) ≡ take n (drop i s)
+pub part-of-front : (n i w : ℕ) (s : List ℕ) → i + n ≤ w → take n (drop i (take w s)) ≡ take n (drop i s)
 part-of-front n zero w s h = take-take n w s (omega arith)
 part-of-front n (suc i) zero s h = absurd (omega arith)
 part-of-front n (suc i) (suc w) [] h = refl
