@@ -118,10 +118,10 @@ pub fn is_left_text(s: &[u8], w: usize, set: Set) -> bool
     if !all_in(set, s) {
         return false;
     }
-    if is_blank(s) {
+    if byte(s, 0) != b' ' {
         return true;
     }
-    byte(s, 0) != b' '
+    is_blank(s)
 }
 
 // Spaces in every column.
