@@ -1,14 +1,14 @@
--- `judging::antenna_code` meets its contract: each test of the code is a rule of the group, asked where those before it hold.
+-- `field_judging::antenna_code` meets its contract: each test of the code is a rule of the group, asked where those before it hold.
 use mathlib.Core.Path.{_≡_, sym, _∙_}
 use lib.ListN.{drop}
 use denote.Ref.{now}
 use Rattle.basics.specs.Rules.{firstBroken}
 use Rattle.station.specs.Places.{fieldsOf}
 use Rattle.station.specs.Groups.{antennaFields}
-use Rattle.judging.proofs.PartLaws.{passing, stopping, passed-all}
+use Rattle.coordination_judging.proofs.PartLaws.{passing, stopping, passed-all}
 use borrow.Author.Needs.{needs}
-use Rattle.judging.proofs.antenna_code.Statement.{statement}
-use Rattle.judging.proofs.antenna_code.Tie as tie
+use Rattle.field_judging.proofs.antenna_code.Statement.{statement}
+use Rattle.field_judging.proofs.antenna_code.Tie as tie
 
 -- the rules that hold are passed
 past-1 : (c : tie.Else1) → let rules = antennaFields (fieldsOf (now (c .before .before .before .before .args .rec))) in firstBroken 19 rules ≡ firstBroken 20 (drop 1 rules)

@@ -1,4 +1,4 @@
--- `judging::field_code` meets its contract: each group is asked where the groups before it hold.
+-- `field_judging::field_code` meets its contract: each group is asked where the groups before it hold.
 use mathlib.Core.Path.{_≡_, sym, _∙_}
 use mathlib.Core.List.{_++_}
 use denote.Ref.{now}
@@ -8,8 +8,8 @@ use Rattle.station.specs.Places.{fieldsOf}
 use Rattle.station.specs.Groups.{channelFields, siteFields, emissionFields, antennaFields, coordinationFields}
 use Rattle.station.specs.Rules.{fieldRules}
 use borrow.Author.Needs.{needs}
-use Rattle.judging.proofs.field_code.Statement.{statement}
-use Rattle.judging.proofs.field_code.Tie as tie
+use Rattle.field_judging.proofs.field_code.Statement.{statement}
+use Rattle.field_judging.proofs.field_code.Tie as tie
 
 -- a group whose rules hold is passed
 past-1 : (c : tie.Else1) → let f = fieldsOf (now (c .before .before .before .args .rec)) in firstBroken 1 (fieldRules f) ≡ firstBroken 8 (siteFields f ++ (emissionFields f ++ (antennaFields f ++ (coordinationFields f))))

@@ -1,14 +1,14 @@
--- `judging::site_code` meets its contract: each test of the code is a rule of the group, asked where those before it hold.
+-- `field_judging::site_code` meets its contract: each test of the code is a rule of the group, asked where those before it hold.
 use mathlib.Core.Path.{_≡_, sym, _∙_}
 use lib.ListN.{drop}
 use denote.Ref.{now}
 use Rattle.basics.specs.Rules.{firstBroken}
 use Rattle.station.specs.Places.{fieldsOf}
 use Rattle.station.specs.Groups.{siteFields}
-use Rattle.judging.proofs.PartLaws.{passing, stopping, passed-all}
+use Rattle.coordination_judging.proofs.PartLaws.{passing, stopping, passed-all}
 use borrow.Author.Needs.{needs}
-use Rattle.judging.proofs.site_code.Statement.{statement}
-use Rattle.judging.proofs.site_code.Tie as tie
+use Rattle.field_judging.proofs.site_code.Statement.{statement}
+use Rattle.field_judging.proofs.site_code.Tie as tie
 
 -- the rules that hold are passed
 past-1 : (c : tie.Else1) → let rules = siteFields (fieldsOf (now (c .before .before .before .before .args .rec))) in firstBroken 8 rules ≡ firstBroken 9 (drop 1 rules)

@@ -1,4 +1,4 @@
--- `judging::channel_code` meets its contract: each test of the code is a rule of the group, asked where those before it hold.
+-- `field_judging::channel_code` meets its contract: each test of the code is a rule of the group, asked where those before it hold.
 use mathlib.Core.Path.{_≡_, sym, _∙_}
 use lib.ListN.{take, drop}
 use denote.Ref.{now}
@@ -7,11 +7,11 @@ use Rattle.fields.specs.Table.{fitsAt}
 use Rattle.basics.specs.Rules.{firstBroken}
 use Rattle.station.specs.Places.{fieldsOf}
 use Rattle.station.specs.Groups.{channelFields}
-use Rattle.judging.proofs.PartLaws.{byte-field, passing, stopping, passed-all}
+use Rattle.coordination_judging.proofs.PartLaws.{byte-field, passing, stopping, passed-all}
 use native.Mathlib.Omega.{arith}
 use borrow.Author.Needs.{needs}
-use Rattle.judging.proofs.channel_code.Statement.{statement}
-use Rattle.judging.proofs.channel_code.Tie as tie
+use Rattle.field_judging.proofs.channel_code.Statement.{statement}
+use Rattle.field_judging.proofs.channel_code.Tie as tie
 
 -- the rules that hold are passed
 past-1 : (c : tie.Else1) → let rules = channelFields (fieldsOf (now (c .before .before .before .before .args .rec))) in firstBroken 1 rules ≡ firstBroken 2 (drop 1 rules)
