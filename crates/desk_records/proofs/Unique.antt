@@ -10,7 +10,7 @@ use Rattle.header.specs.Calls.{readHeaderOutcome}
 use Rattle.answers.proofs.Unique.{one-answer, one-ending}
 use Rattle.respelling.specs.Respelling.{respellOutcome, respelledStation, respellHeaderOutcome, respelledHeader}
 use Rattle.changing.specs.Changing.{changeOutcome, changedRecord}
-use Rattle.desk_records.specs.Records.{tenthsStated, heightStated}
+use Rattle.stating.specs.Stating.{tenthsStated, heightStated}
 use Rattle.desk_records.specs.Promises.{StationCoded, StationKindTold, HeaderCoded, StationRespelled, HeaderRespelled, RecordChanged, PowerChanged, AzimuthChanged, ElevationChanged, HeightChanged, GroundChanged}
 
 -- so that `desk_station_code` has one answer and one code,

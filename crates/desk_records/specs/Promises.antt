@@ -13,7 +13,7 @@ use Rattle.header.specs.Calls.{readHeaderOutcome}
 use Rattle.answers.specs.Endings.{Answered, AnsweredLeaving}
 use Rattle.respelling.specs.Respelling.{respellOutcome, respelledStation, respellHeaderOutcome, respelledHeader}
 use Rattle.changing.specs.Changing.{changeOutcome, changedRecord}
-use Rattle.desk_records.specs.Records.{tenthsStated, heightStated}
+use Rattle.stating.specs.Stating.{tenthsStated, heightStated}
 
 -- `desk_station_code` on a record.
 abbrev pub StationCoded : List ℕ → ℕ → ℕ → Type 0

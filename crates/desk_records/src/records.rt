@@ -5,17 +5,15 @@ use changing::change_elevation;
 use changing::change_ground;
 use changing::change_height;
 use changing::change_power;
-use distances::Height;
 use distances::Metres;
 use flaws::flaw_number;
-use formats::Tenths;
 use header_judging::check_header;
 use judging::check_station;
 use respelling::respell_header;
 use respelling::respell_station;
+use stating::height_stated;
+use stating::tenths_stated;
 use station_flaws::explain_station;
-ghost use mathlib.Core.Path.{_≡_};
-ghost use Rattle.desk_records.specs.Records.{tenthsStated, heightStated};
 ghost use Rattle.desk_records.specs.Promises.{StationCoded, StationKindTold, HeaderCoded, StationRespelled, HeaderRespelled, PowerChanged, AzimuthChanged, ElevationChanged, HeightChanged, GroundChanged};
 
 // Whether a station's record can be read: 6, 9 with its code, or 0.
@@ -60,26 +58,6 @@ pub extern "C" fn desk_respell_header(rec: &[u8], out: &mut [u8], code: &mut u8)
     ensures { λ r. ⌜ HeaderRespelled (now (rec .entry)) (now (out .entry)) r (now (out .exit)) (now (code .exit)) ⌝ }
 {
     answer(respell_header(rec, out), code)
-}
-
-// A number of tenths as a caller states it: blank where `filled` is 0.
-fn tenths_stated(filled: u8, tenths: i64) -> Tenths
-    ensures { λ r. ⌜ r ≡ tenthsStated filled tenths ⌝ }
-{
-    if filled == 0 {
-        return Tenths::Blank;
-    }
-    Tenths::Filled(tenths)
-}
-
-// A height in metres as a caller states it: blank where `filled` is 0.
-fn height_stated(filled: u8, metres: i64) -> Height
-    ensures { λ r. ⌜ r ≡ heightStated filled metres ⌝ }
-{
-    if filled == 0 {
-        return Height::Blank;
-    }
-    Height::Filled(Metres(metres))
 }
 
 // Sets 8B1 in a station's record, in tenths of a dBW, or blank where `filled` is 0: 6, 9 with the code, or 0.

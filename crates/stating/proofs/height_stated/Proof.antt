@@ -1,9 +1,9 @@
--- `desk_records::records::height_stated` meets its contract.
+-- `stating::height_stated` meets its contract.
 use mir.Facts.{toZ-ofZ}
 use borrow.Author.Tests.{ne-eqb}
-use Rattle.desk_records.specs.Records.{heightStated}
-use Rattle.desk_records.proofs.records.height_stated.Statement.{statement}
-use Rattle.desk_records.proofs.records.height_stated.Tie as tie
+use Rattle.stating.specs.Stating.{heightStated}
+use Rattle.stating.proofs.height_stated.Statement.{statement}
+use Rattle.stating.proofs.height_stated.Tie as tie
 
 returns : tie.Need-returns
 unfolding heightStated

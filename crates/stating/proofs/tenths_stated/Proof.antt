@@ -1,9 +1,9 @@
--- `desk_records::records::tenths_stated` meets its contract.
+-- `stating::tenths_stated` meets its contract.
 use mir.Facts.{toZ-ofZ}
 use borrow.Author.Tests.{ne-eqb}
-use Rattle.desk_records.specs.Records.{tenthsStated}
-use Rattle.desk_records.proofs.records.tenths_stated.Statement.{statement}
-use Rattle.desk_records.proofs.records.tenths_stated.Tie as tie
+use Rattle.stating.specs.Stating.{tenthsStated}
+use Rattle.stating.proofs.tenths_stated.Statement.{statement}
+use Rattle.stating.proofs.tenths_stated.Tie as tie
 
 returns : tie.Need-returns
 unfolding tenthsStated
