@@ -1,11 +1,11 @@
 // A typed header written into a lent record, each field straight into its own columns.
 use crate::groups::put_end;
 use crate::groups::put_file;
-use crate::groups::put_sender;
-use crate::groups::put_sending;
 use basics::Outcome;
 use header::Header;
 use header::typed::typed_header_code;
+use sender_writing::put_sender;
+use sender_writing::put_sending;
 ghost use mathlib.Core.Path.{_≡_};
 ghost use lib.ListN.{length};
 ghost use Rattle.header.specs.Spelling.{spellHeader};

@@ -1,4 +1,4 @@
--- `header_writing::groups::put_sending` meets its contract: each field is written after the one before it.
+-- `sender_writing::put_sending` meets its contract: each field is written after the one before it.
 use mathlib.Core.Path.{_≡_}
 use mathlib.Core.Bool.{true, false≢true}
 use lib.ListN.{length}
@@ -11,8 +11,8 @@ use Rattle.days.specs.declared.dates.Day.{Day}
 use Rattle.days.specs.declared.dates.Day.the-variants as day
 use borrow.Author.Needs.{needs}
 use native.Mathlib.Omega.{arith}
-use Rattle.header_writing.proofs.groups.put_sending.Statement.{statement}
-use Rattle.header_writing.proofs.groups.put_sending.Tie as tie
+use Rattle.sender_writing.proofs.put_sending.Statement.{statement}
+use Rattle.sender_writing.proofs.put_sending.Tie as tie
 
 -- a date that may not be blank fits where it may
 may-stand : (v : Day) → dateFits v ≡ true → dayFits v ≡ true

@@ -1,4 +1,4 @@
--- `header_writing::groups::put_sender` meets its contract: each field is written after the one before it.
+-- `sender_writing::put_sender` meets its contract: each field is written after the one before it.
 use mathlib.Core.Path.{_≡_, sym}
 use lib.ListN.{length, replicate}
 use Prim.Native.Nat.{ℕ}
@@ -6,8 +6,8 @@ use Rattle.header.specs.Spelling.{headerPieces}
 use Rattle.basics.proofs.WriteLaws.{nothing-yet, then-text, then-sized, all-written}
 use borrow.Author.Needs.{needs}
 use native.Mathlib.Omega.{arith}
-use Rattle.header_writing.proofs.groups.put_sender.Statement.{statement}
-use Rattle.header_writing.proofs.groups.put_sender.Tie as tie
+use Rattle.sender_writing.proofs.put_sender.Statement.{statement}
+use Rattle.sender_writing.proofs.put_sender.Tie as tie
 
 -- the texts have the width of their columns
 mail-wide : (s : tie.Start) → length (s .args .h .mail) ≡ 40
