@@ -10,7 +10,7 @@ use lib.Seq.{drop-cons, length-take-le}
 use borrow.Author.Tests.{le-leb, lt-leb, lt-ltb}
 use Rattle.basics.specs.Fields.{placeOf}
 use Rattle.semicolons.specs.Lines.{before, behind, split}
-use Rattle.semicolons.proofs.FillLaws.{field-found}
+use Rattle.semicolons.proofs.MarkLaws.{field-found}
 use Rattle.faults.specs.Faults.{noField, firstLonger}
 use Rattle.faults.specs.declared.LongField.{LongField}
 

@@ -1,7 +1,7 @@
 // The first field of a line that is longer than its columns.
 use crate::LongField;
 use places::station_place;
-use semicolons::marks::field_length;
+use splitting::marks::field_length;
 ghost use mathlib.Core.Path.{_≡_};
 ghost use Prim.Native.Nat.{_+_, _≤_};
 ghost use lib.ListN.{length, drop};

@@ -1,7 +1,7 @@
 // The marks of a line.
 use crate::Marks;
 use columns::texts::byte;
-use semicolons::marks::count;
+use splitting::marks::count;
 ghost use mathlib.Core.Path.{_≡_};
 ghost use Rattle.semicolons.specs.Lines.{isFeed, lastByte};
 ghost use Rattle.faults.specs.Faults.{hasMarks};

@@ -2,7 +2,7 @@
 use crate::Gathered;
 use crate::sums::sum_to;
 use columns::texts::byte;
-use semicolons::marks::count;
+use splitting::marks::count;
 ghost use mathlib.Core.Path.{_≡_};
 ghost use Prim.Native.Nat.{_+_, min};
 ghost use lib.ListN.{length};

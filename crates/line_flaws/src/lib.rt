@@ -1,8 +1,8 @@
 // What is wrong with a line that is refused with 9: the flaw of the field that the code of its record names.
 use basics::Outcome;
+use filling::put_fields;
 use flaws::Flaw;
-use semicolons::filling::put_fields;
-use semicolons::splitting::is_line;
+use splitting::lines::is_line;
 use station_flaws::Explained;
 use station_flaws::explain_station;
 ghost use Rattle.line_flaws.specs.Promises.{LineExplained};

@@ -1,9 +1,9 @@
 // Reading a line: the station that it says.
 use basics::Outcome;
 use empties::empty_station;
+use filling::put_fields;
 use reading::typed::read_station;
-use semicolons::filling::put_fields;
-use semicolons::splitting::is_line;
+use splitting::lines::is_line;
 use station::Station;
 ghost use Rattle.lists.specs.Promises.{LineRead};
 

@@ -1,7 +1,7 @@
 // Writing a line: a station as its owner keeps it.
 use basics::Outcome;
-use semicolons::joining::put_first;
-use semicolons::joining::put_line;
+use joining::put_first;
+use joining::put_line;
 use station::Station;
 use station::typed::typed_code;
 use writing::put_station;

@@ -8,6 +8,4 @@ pub mod WidthLaws
 pub mod SizeLaws
 pub mod CountLaws
 pub mod MarkLaws
-pub mod FillLaws
-pub mod OutLaws
 pub mod Examples

@@ -1,12 +1,12 @@
--- Where a field ends, place by place.
-use mathlib.Core.Path.{_≡_, sym, ap, _∙_}
+-- Where a field ends, place by place, and where the next one begins.
+use mathlib.Core.Path.{_≡_, refl, sym, ap, _∙_}
 use mathlib.Core.Bool.{true, false}
 use mathlib.Core.List.{List, [], _∷_, _++_, append-assoc, append-nil}
-use Prim.Native.Nat.{ℕ, suc, _+_, _≤_, _<_}
+use Prim.Native.Nat.{ℕ, suc, _+_, _-_, _≤_, _<_}
 use native.Mathlib.Omega.{arith}
 use native.Mathlib.Numerals.{add-one}
-use lib.ListN.{length, getD, set, take, drop, length-append, drop-of-length-le}
-use lib.Seq.{drop-cons, length-take-le, take-suc, take-suc-set}
+use lib.ListN.{length, getD, set, take, drop, length-append, length-drop, drop-of-length-le}
+use lib.Seq.{drop-cons, drop-drop, length-take-le, take-suc, take-suc-set}
 use Rattle.semicolons.specs.Lines.{isMark, before, behind}
 use Rattle.semicolons.specs.Marks.{Passed, Ends}
 
@@ -45,3 +45,21 @@ copied-on s columns i h l e = rw (add-one i) (take-suc-set columns i (getD s i 0
 -- A field that goes on behind i bytes is longer than those.
 pub longer : (s : List ℕ) (i : ℕ) → Passed s i → i ≤ length (before s)
 longer s i p = omega (arith, ap length (p .1), length-append (take i s) (before (drop i s)), length-take-le i s (p .0))
+
+-- The field that begins at a place, where it ends and where the next one begins.
+pub field-found : (line : List ℕ) (at n : ℕ) (rest : List ℕ) → at ≤ length line → rest ≡ drop at line
+    → (n ≤ length rest) × (before rest ≡ take n rest) × (behind rest ≡ drop (n + 1) rest)
+    → (take n rest ≡ before (drop at line)) × (at + length (take n rest) ≤ length line) × (drop (at + length (take n rest) + 1) line ≡ behind (drop at line))
+field-found line at n rest h e f =
+    let size : length (take n rest) ≡ n = length-take-le n rest (f .0) in
+    let all : length rest ≡ length line - at = ap length e ∙ length-drop at line in
+    let sum : at + n + 1 ≡ at + (n + 1) = omega arith in (
+      sym (f .1) ∙ ap before e,
+      rw size (omega (arith, f .0)),
+      rw (size, sum) (sym (drop-drop (n + 1) at line) ∙ ap (drop (n + 1)) (sym e) ∙ sym (f .2) ∙ ap behind e),
+    )
+
+-- A line without bytes has no last one.
+pub no-last : (t : List ℕ) → length t ≡ 0 → 0 ≡ getD t (length t - 1) 0
+no-last [] e = refl
+no-last (c ∷ t) e = absurd (omega arith)

@@ -3,7 +3,7 @@ use denote.Ref.{now}
 use mathlib.Core.Path.{ap}
 use Prim.Native.Nat.{ℕ}
 use lib.Dec.{eqb}
-use Rattle.semicolons.proofs.FillLaws.{no-last}
+use Rattle.semicolons.proofs.MarkLaws.{no-last}
 use borrow.Author.Needs.{needs}
 use Rattle.faults.proofs.marking.ends_in_feed.Statement.{statement}
 use Rattle.faults.proofs.marking.ends_in_feed.Tie as tie
