@@ -3,7 +3,7 @@ use basics::outcomes::is_done;
 use basics::outcomes::refusal_number;
 use places::field_place;
 use replacing::records::replace;
-use sheet::judging::judge;
+use sheet_judging::judge;
 use showing::show_outcome;
 use verifying::verifying::Finding;
 use verifying::verifying::verify;

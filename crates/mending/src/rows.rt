@@ -1,7 +1,7 @@
 // The rows that a replacement touches, written anew.
 use chains::keys::Scope;
 use chains::keys::site_number;
-use sheet::judging::put_rows;
+use sheet_rows::put_rows;
 use words::word_of_six;
 ghost use mathlib.Core.Path.{_≡_};
 ghost use mathlib.Core.List.{_++_};

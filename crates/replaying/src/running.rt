@@ -7,7 +7,7 @@ use basics::Outcome;
 use basics::outcomes::is_done;
 use numerals::amount_in;
 use replacing::records::replace;
-use sheet::judging::judge;
+use sheet_judging::judge;
 ghost use mathlib.Core.Path.{_≡_};
 ghost use mathlib.Core.Bool.{cond, true};
 ghost use Prim.Native.Nat.{_≤_};

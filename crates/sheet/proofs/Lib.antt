@@ -2,5 +2,4 @@ pub mod SheetLaws
 pub mod JudgeLaws
 pub mod EnteredLaws
 pub mod WrittenLaws
-pub mod TrailerLaws
 pub mod Unique

@@ -1,6 +1,1 @@
-// Verdict sheets, judged from a file.
-
-pub mod judging;
-pub mod rows;
-pub mod trailers;
-mod twins;
+// Verdict sheets: what a row holds, the sheet judged from a file, and how judging ends: see specs/.

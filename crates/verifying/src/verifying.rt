@@ -3,7 +3,7 @@ use crate::comparing::right_in_sheet;
 use basics::Outcome;
 use basics::outcomes::is_done;
 use files::lengths::stations_in;
-use sheet::judging::judge_outcome;
+use sheet_judging::judge_outcome;
 ghost use Rattle.verifying.specs.Promises.{SheetVerified};
 
 // What is found of a sheet: nothing, since the call is refused; that it is right; or the offset, from 0, of its first wrong byte.
