@@ -1,7 +1,7 @@
 // The calls on lines of a semicolon list: a record as a line, and a line as a record.
 use answers::answer;
-use lists::records::line_to_record;
-use lists::records::record_to_line;
+use lines_in::line_to_record;
+use lines_out::record_to_line;
 ghost use Rattle.desk_lists.specs.Promises.{RecordLineOut, LineRecordIn};
 
 // Writes a station's record as a line into the lent bytes: 6, 9 with its code, 12, or 0 and the line's length.

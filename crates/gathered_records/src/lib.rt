@@ -1,7 +1,7 @@
 // Filing a line that was gathered.
 use basics::Outcome;
 use gathering::Gathered;
-use lists::records::line_to_record;
+use lines_in::line_to_record;
 ghost use mathlib.Core.Path.{_≡_};
 ghost use lib.ListN.{take};
 ghost use Rattle.lists.specs.Promises.{LineFiled};

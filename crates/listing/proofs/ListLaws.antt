@@ -17,7 +17,7 @@ use Rattle.basics.specs.Outcomes.{refusal, codeWith, ifDone, firstRefusal}
 use Rattle.lists.specs.Calls.{recordListing, listedLength, listedRecord}
 use Rattle.lists.specs.Promises.{RecordListed}
 use Rattle.basics.specs.declared.Outcome.the-variants as outcome
-use Rattle.lists.specs.declared.writing_lines.WrittenLine.{WrittenLine}
+use Rattle.lists.specs.declared.WrittenLine.{WrittenLine}
 use Rattle.lists.proofs.RoundTrip.{line-size}
 use Rattle.printing.specs.Lines.{brokenLine}
 use Rattle.listing.specs.Lists.{entry, entryOf}

@@ -5,7 +5,7 @@ use basics::outcomes::refusal_number;
 use files::lengths::check_file;
 use files::lengths::record_in;
 use files::lengths::stations_in;
-use lists::records::record_to_line;
+use lines_out::record_to_line;
 use printing::lines::put_broken;
 use printing::lines::put_refused;
 ghost use Prim.Native.Nat.{_+_, _*_, _≤_};

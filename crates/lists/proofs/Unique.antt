@@ -8,8 +8,8 @@ use Rattle.station.specs.declared.Station.{Station}
 use Rattle.basics.specs.Outcomes.{refusal, codeWith}
 use Rattle.lists.specs.Promises.{LineRead, LineWritten, RecordListed, LineFiled}
 use Rattle.basics.specs.declared.Outcome.{Outcome}
-use Rattle.lists.specs.declared.reading_lines.ReadLine.{ReadLine}
-use Rattle.lists.specs.declared.writing_lines.WrittenLine.{WrittenLine}
+use Rattle.lists.specs.declared.ReadLine.{ReadLine}
+use Rattle.lists.specs.declared.WrittenLine.{WrittenLine}
 
 -- Two answers of `read_line` to one line are equal.
 pub one-line-read : (t : List ℕ) (a b : ReadLine) → LineRead t a → LineRead t b → a ≡ b

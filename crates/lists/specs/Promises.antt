@@ -5,8 +5,8 @@ use mathlib.Core.List.{List}
 use Rattle.station.specs.declared.Station.{Station}
 use Rattle.lists.specs.Calls.{lineOutcome, stationInLine, writeLineOutcome, lineLength, writtenLine, recordListing, listedLength, listedRecord, lineFiling, filedLine}
 use Rattle.basics.specs.declared.Outcome.{Outcome}
-use Rattle.lists.specs.declared.reading_lines.ReadLine.{ReadLine}
-use Rattle.lists.specs.declared.writing_lines.WrittenLine.{WrittenLine}
+use Rattle.lists.specs.declared.ReadLine.{ReadLine}
+use Rattle.lists.specs.declared.WrittenLine.{WrittenLine}
 
 -- `read_line` on a line: how it ends, and the station that it hands back.
 abbrev pub LineRead : List ℕ → ReadLine → Type 0

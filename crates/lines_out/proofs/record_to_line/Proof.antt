@@ -1,13 +1,13 @@
--- `lists::records::record_to_line` meets its contract: it is refused as reading is, or its station is listed.
+-- `lines_out::record_to_line` meets its contract: it is refused as reading is, or its station is listed.
 use denote.Ref.{now}
 use mathlib.Core.Path.{sym, _∙_}
 use borrow.Author.Tests.{not-true, not-false}
 use Rattle.station.specs.Codes.{valueOf}
 use Rattle.lists.proofs.RoundTrip.{spelled-own}
 use Rattle.lists.proofs.RecordLaws.{record-refused, taken, value-fits, record-listed}
 use borrow.Author.Needs.{needs}
-use Rattle.lists.proofs.records.record_to_line.Statement.{statement}
-use Rattle.lists.proofs.records.record_to_line.Tie as tie
+use Rattle.lines_out.proofs.record_to_line.Statement.{statement}
+use Rattle.lines_out.proofs.record_to_line.Tie as tie
 
 check-station-requires : tie.Need-check-station-requires
 check-station-requires c κs = search needs

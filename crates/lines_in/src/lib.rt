@@ -1,6 +1,4 @@
-// A station's record as a line, and a line as a station's record. Neither makes a typed station: a record that breaks no rule is respelled where it stands.
-use crate::writing_lines::WrittenLine;
-use crate::writing_lines::write_spelled;
+// A line on its way in, as a station's record. No typed station is made: a record that breaks no rule is respelled where it stands.
 use basics::Outcome;
 use basics::outcomes::is_done;
 use filling::put_fields;
@@ -13,22 +11,8 @@ ghost use lib.Dec.{eqb};
 ghost use lib.ListN.{length};
 ghost use Rattle.basics.specs.Outcomes.{refusal};
 ghost use Rattle.semicolons.specs.Lines.{recordOf};
 ghost use Rattle.lists.specs.Calls.{lineOutcome};
-ghost use Rattle.lists.specs.Promises.{RecordListed, LineFiled};
-
-// Writes the station of a record as a line; it is refused where the record has another length than 219 bytes, where it breaks
-// a rule, or where the lent buffer is shorter than the line, and then nothing is written.
-pub fn record_to_line(rec: &[u8], buffer: &mut [u8]) -> WrittenLine
-    ensures { λ r. ⌜ RecordListed (now (rec .entry)) (now (buffer .entry)) r (now (buffer .exit)) ⌝ }
-{
-    let outcome = check_station(rec);
-    if !is_done(outcome) {
-        return WrittenLine { outcome, length: 0 };
-    }
-    let mut own = [b' '; 219];
-    put_respelled(rec, &mut own);
-    write_spelled(&own, buffer)
-}
+ghost use Rattle.lists.specs.Promises.{LineFiled};
 
 // Puts the fields of a line into a record, and answers how reading the line ends; where it is done, all of them stand there.
 fn record_in(line: &[u8], rec: &mut [u8]) -> Outcome

@@ -1,13 +1,13 @@
--- `lists::writing_lines::write_line` meets its contract: it is refused for a broken rule, or its record is written as a line.
+-- `typed_lines::write_line` meets its contract: it is refused for a broken rule, or its record is written as a line.
 use denote.Ref.{now}
 use mathlib.Core.Path.{sym, ap, _∙_}
 use Rattle.station.specs.declared.Station.{Station}
 use Rattle.lists.specs.Calls.{writeLineOutcome, lineLength, writtenLine}
 use Rattle.lists.proofs.RoundTrip.{spelled-own}
 use Rattle.lists.proofs.CallLaws.{rule-broken}
 use borrow.Author.Needs.{needs}
-use Rattle.lists.proofs.writing_lines.write_line.Statement.{statement}
-use Rattle.lists.proofs.writing_lines.write_line.Tie as tie
+use Rattle.typed_lines.proofs.write_line.Statement.{statement}
+use Rattle.typed_lines.proofs.write_line.Tie as tie
 
 typed-code-requires : tie.Need-typed-code-requires
 typed-code-requires c κs = search needs

@@ -1,24 +1,19 @@
-// Writing a line: a station as its owner keeps it.
+// A station's record on its way out, as a line. No typed station is made: a record that breaks no rule is respelled first.
 use basics::Outcome;
+use basics::outcomes::is_done;
 use joining::put_first;
 use joining::put_line;
-use station::Station;
-use station::typed::typed_code;
-use writing::put_station;
+use judging::check_station;
+use lists::WrittenLine;
+use own_spelling::put_respelled;
 ghost use mathlib.Core.Path.{_≡_};
 ghost use lib.ListN.{length};
 ghost use Rattle.station.specs.Spelling.{spellStation};
 ghost use Rattle.station.specs.Codes.{valueOf, typedCode};
-ghost use Rattle.lists.specs.Promises.{LineWritten};
-
-// How writing a line ends, and the line's length; 0 on a refusal.
-pub struct WrittenLine {
-    pub outcome: Outcome,
-    pub length: usize,
-}
+ghost use Rattle.lists.specs.Promises.{LineWritten, RecordListed};
 
 // Writes the record of a station that breaks no rule, in its one spelling, as a line; it is refused where the lent buffer is shorter than the line.
-pub(crate) fn write_spelled(rec: &[u8], buffer: &mut [u8]) -> WrittenLine
+pub fn write_spelled(rec: &[u8], buffer: &mut [u8]) -> WrittenLine
     requires { ⌜ (length (now rec) ≡ 219) × (typedCode (valueOf (now rec)) ≡ 0) × (now rec ≡ spellStation (valueOf (now rec))) ⌝ }
     ensures { λ r. ⌜ LineWritten (valueOf (now (rec .entry))) (now (buffer .entry)) r (now (buffer .exit)) ⌝ }
 {
@@ -37,19 +32,16 @@ pub(crate) fn write_spelled(rec: &[u8], buffer: &mut [u8]) -> WrittenLine
     }
 }
 
-// Writes a station as a line; it is refused where it breaks a rule, or where the lent buffer is shorter than the line, and
-// then nothing is written.
-pub fn write_line(s: Station, buffer: &mut [u8]) -> WrittenLine
-    ensures { λ r. ⌜ LineWritten s (now (buffer .entry)) r (now (buffer .exit)) ⌝ }
+// Writes the station of a record as a line; it is refused where the record has another length than 219 bytes, where it breaks
+// a rule, or where the lent buffer is shorter than the line, and then nothing is written.
+pub fn record_to_line(rec: &[u8], buffer: &mut [u8]) -> WrittenLine
+    ensures { λ r. ⌜ RecordListed (now (rec .entry)) (now (buffer .entry)) r (now (buffer .exit)) ⌝ }
 {
-    let code = typed_code(s);
-    if code != 0 {
-        return WrittenLine {
-            outcome: Outcome::RuleBroken(code),
-            length: 0,
-        };
+    let outcome = check_station(rec);
+    if !is_done(outcome) {
+        return WrittenLine { outcome, length: 0 };
     }
-    let mut rec = [b' '; 219];
-    put_station(s, &mut rec);
-    write_spelled(&rec, buffer)
+    let mut own = [b' '; 219];
+    put_respelled(rec, &mut own);
+    write_spelled(&own, buffer)
 }

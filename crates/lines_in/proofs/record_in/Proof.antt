@@ -1,13 +1,13 @@
--- `lists::records::record_in` meets its contract: it is refused for the first reason, or ends as judging its record does.
+-- `lines_in::record_in` meets its contract: it is refused for the first reason, or ends as judging its record does.
 use denote.Ref.{now}
 use mathlib.Core.Path.{refl, sym, _∙_}
 use mathlib.Core.Bool.{false≢true}
 use borrow.Author.Tests.{not-true, not-false}
 use Rattle.basics.specs.Outcomes.{refusal}
 use Rattle.lists.proofs.CallLaws.{not-a-line, long-field, record-read}
 use borrow.Author.Needs.{needs}
-use Rattle.lists.proofs.records.record_in.Statement.{statement}
-use Rattle.lists.proofs.records.record_in.Tie as tie
+use Rattle.lines_in.proofs.record_in.Statement.{statement}
+use Rattle.lines_in.proofs.record_in.Tie as tie
 
 is-line-requires : tie.Need-is-line-requires
 is-line-requires c κs = search needs

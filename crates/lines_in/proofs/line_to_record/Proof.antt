@@ -1,14 +1,14 @@
--- `lists::records::line_to_record` meets its contract: it is refused for the first reason, or its station is filed.
+-- `lines_in::line_to_record` meets its contract: it is refused for the first reason, or its station is filed.
 use denote.Ref.{now}
 use mathlib.Core.Path.{_≡_, sym, ap, _∙_}
 use Rattle.basics.proofs.RefusalLaws.{done-is}
 use Rattle.station.specs.Codes.{valueOf, stationCode}
 use Rattle.semicolons.specs.Lines.{recordOf}
 use Rattle.lists.proofs.Reading.{line-code, line-value}
 use Rattle.lists.proofs.RecordLaws.{not-the-length, line-refused, line-filed}
 use borrow.Author.Needs.{needs}
-use Rattle.lists.proofs.records.line_to_record.Statement.{statement}
-use Rattle.lists.proofs.records.line_to_record.Tie as tie
+use Rattle.lines_in.proofs.line_to_record.Statement.{statement}
+use Rattle.lines_in.proofs.line_to_record.Tie as tie
 
 returns : tie.Need-returns
 returns c = not-the-length (now (c .before .before .before .args .line)) (now (c .before .before .before .args .out)) (c .if1 .taken)

@@ -1,11 +1,11 @@
--- `lists::reading_lines::read_line` meets its contract: it is refused for the first reason, or read as its record is.
+-- `typed_lines::read_line` meets its contract: it is refused for the first reason, or read as its record is.
 use denote.Ref.{now}
 use mathlib.Core.Path.{sym, _∙_}
 use borrow.Author.Tests.{not-true, not-false}
 use Rattle.lists.proofs.CallLaws.{not-a-line, long-field, record-read}
 use borrow.Author.Needs.{needs}
-use Rattle.lists.proofs.reading_lines.read_line.Statement.{statement}
-use Rattle.lists.proofs.reading_lines.read_line.Tie as tie
+use Rattle.typed_lines.proofs.read_line.Statement.{statement}
+use Rattle.typed_lines.proofs.read_line.Tie as tie
 
 is-line-requires : tie.Need-is-line-requires
 is-line-requires c κs = search needs
