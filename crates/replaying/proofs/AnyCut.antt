@@ -11,8 +11,8 @@ use native.Mathlib.Nat.{add-zero, add-suc}
 use borrow.Author.Tests.{ne-eqb, not-false}
 use Rattle.forms.specs.Counting.{orElse, first}
 use Rattle.forms.proofs.CountLaws.{first-cong}
-use Rattle.replaying.specs.Traces.{saveLength, saveAt, canRun, begun, stopsAt, ranOf}
-use Rattle.replaying.proofs.TraceLaws.{stops, no-more, runs-within}
+use Rattle.traces.specs.Traces.{saveLength, saveAt, canRun, begun, stopsAt, ranOf}
+use Rattle.traces.proofs.TraceLaws.{stops, no-more, runs-within}
 use Rattle.replaying.proofs.GoingOn.{first-saves}
 
 -- A search that finds none finds none among fewer,

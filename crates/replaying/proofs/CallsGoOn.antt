@@ -15,7 +15,7 @@ use Rattle.sheet.proofs.SheetLaws.{judged-length}
 use Rattle.sheet.proofs.JudgeLaws.{judge-sized-up}
 use Rattle.replacing.proofs.Demand3.{after-any-run}
 use Rattle.replacing.proofs.AnyOrder.{run-keeps-length}
-use Rattle.replaying.specs.Traces.{saveLength, saveAt, savedNumber, stopsAt, ranOf, asked}
+use Rattle.traces.specs.Traces.{saveLength, saveAt, savedNumber, stopsAt, ranOf, asked}
 use Rattle.replaying.specs.Replaying.{dayAfter, acceptedIn, refusedIn, stoppedIn, leftBy}
 use Rattle.replaying.proofs.GoingOn.{behind, stops-behind, counts-add, day-goes-on}
 

@@ -1,8 +1,6 @@
-pub mod TraceLaws
 pub mod RunLaws
 pub mod ReplayLaws
 pub mod GoingOn
 pub mod CallsGoOn
 pub mod AnyCut
 pub mod Unique
-pub mod Examples

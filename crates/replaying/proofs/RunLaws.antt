@@ -24,9 +24,9 @@ use Rattle.replacing.specs.declared.records.Replaced.{Replaced}
 use Rattle.replacing.proofs.Demand3.{after-any-run}
 use Rattle.replacing.proofs.EitherOrder.{judgedEnd, judged-end, taken, taken-by-length}
 use Rattle.replacing.proofs.AnyOrder.{Call, run-keeps-length}
-use Rattle.replaying.specs.Traces.{savedDigits, saveAt, savedNumber, savedRecord, canRun, stopsAt, ranOf, asked}
+use Rattle.traces.specs.Traces.{savedDigits, saveAt, savedNumber, savedRecord, canRun, stopsAt, ranOf, asked}
 use Rattle.replaying.specs.Replaying.{accepted, aboveAll, dayAfter}
-use Rattle.replaying.proofs.TraceLaws.{call, asked-one, save-whole}
+use Rattle.traces.proofs.TraceLaws.{call, asked-one, save-whole}
 
 -- A run and another after it are one run.
 pub after-both : (s : List ℕ × List ℕ) (xs ys : List Call) → afterAll s (xs ++ ys) ≡ afterAll (afterAll s xs) ys

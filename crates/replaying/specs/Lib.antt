@@ -1,4 +1,2 @@
-pub mod Traces
 pub mod Replaying
 pub mod Promises
-pub mod Examples

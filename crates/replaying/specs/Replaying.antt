@@ -9,7 +9,7 @@ use Rattle.forms.specs.Counting.{count}
 use Rattle.sheet.specs.Sheets.{sheetOf}
 use Rattle.sheet.specs.Calls.{judgeOutcome}
 use Rattle.replacing.specs.Calls.{afterAll}
-use Rattle.replaying.specs.Traces.{saveAt, savedNumber, stopsAt, ranOf, asked}
+use Rattle.traces.specs.Traces.{saveAt, savedNumber, stopsAt, ranOf, asked}
 
 -- The list is judged, and then the saves that run are put in one after the other, as single replacements.
 unfoldable pub dayAfter : List ℕ → List ℕ → List ℕ × List ℕ

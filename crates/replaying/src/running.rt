@@ -1,13 +1,13 @@
 // Running a trace: the list is judged, and then each save is a replacement.
-use crate::saves::SAVE_LENGTH;
-use crate::saves::SAVED_DIGITS;
-use crate::saves::can_run;
-use crate::saves::save_from;
 use basics::Outcome;
 use basics::outcomes::is_done;
 use numerals::amount_in;
 use replacing::records::replace;
 use sheet_judging::judge;
+use traces::SAVE_LENGTH;
+use traces::SAVED_DIGITS;
+use traces::can_run;
+use traces::save_from;
 ghost use mathlib.Core.Path.{_≡_};
 ghost use mathlib.Core.Bool.{cond, true};
 ghost use Prim.Native.Nat.{_≤_};
@@ -17,7 +17,7 @@ ghost use Rattle.forms.specs.Counting.{count};
 ghost use Rattle.sheet.specs.Sheets.{sheetOf};
 ghost use Rattle.sheet.specs.Calls.{judgeOutcome};
 ghost use Rattle.replacing.specs.Calls.{replaceOutcome, replacedFile, replacedSheet};
-ghost use Rattle.replaying.specs.Traces.{saveLength, savedNumber, savedRecord, stopsAt, ranOf};
+ghost use Rattle.traces.specs.Traces.{saveLength, savedNumber, savedRecord, stopsAt, ranOf};
 ghost use Rattle.replaying.specs.Replaying.{accepted, aboveAll, dayAfter};
 ghost use Rattle.replaying.specs.Promises.{TraceReplayed};
 

@@ -6,7 +6,7 @@ use lib.ListN.{length, drop, length-drop}
 use lib.Seq.{length-take-le, take-all}
 use native.Mathlib.Omega.{arith}
 use borrow.Author.Needs.{needs}
-use Rattle.replaying.specs.Traces.{savedDigits, savedNumber, savedRecord}
+use Rattle.traces.specs.Traces.{savedDigits, savedNumber, savedRecord}
 use Rattle.replaying.proofs.RunLaws.{as-saved, told-taken, told-refused}
 use Rattle.replaying.proofs.running.run_save.Statement.{statement}
 use Rattle.replaying.proofs.running.run_save.Tie as tie

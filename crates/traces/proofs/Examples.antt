@@ -2,8 +2,8 @@
 use mathlib.Core.Path.{refl}
 use Rattle.columns.specs.Texts.{every, skip}
 use Rattle.numerals.specs.Numbers.{leading, numberFrom, wholeDigits, wholeOf}
-use Rattle.replaying.specs.Traces.{saveAt, savedNumber, savedRecord, canRun, begun, stopsAt, ranOf, asked}
-use Rattle.replaying.specs.Examples.{Examples}
+use Rattle.traces.specs.Traces.{saveAt, savedNumber, savedRecord, canRun, begun, stopsAt, ranOf, asked}
+use Rattle.traces.specs.Examples.{Examples}
 
 pub examples : Examples
 unfolding every skip leading numberFrom wholeDigits wholeOf saveAt savedNumber savedRecord canRun begun stopsAt ranOf asked

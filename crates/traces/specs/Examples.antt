@@ -7,7 +7,7 @@ use Prim.Native.String.{String}
 use lib.ListN.{length, take, replicate}
 use Rattle.columns.specs.Texts.{bytes}
 use Rattle.basics.specs.Fields.{recordLength}
-use Rattle.replaying.specs.Traces.{savedNumber, begun, stopsAt, ranOf, asked}
+use Rattle.traces.specs.Traces.{savedNumber, begun, stopsAt, ranOf, asked}
 
 -- A record that is one letter, and a save of it.
 abbrev pub letters : ℕ → List ℕ

@@ -14,7 +14,7 @@ use Rattle.columns.proofs.TextLaws.{and-split}
 use borrow.Author.Tests.{ne-eqb, eqb-true}
 use Rattle.forms.specs.Counting.{first}
 use Rattle.forms.proofs.CountLaws.{first-found}
-use Rattle.replaying.specs.Traces.{saveLength, saveAt, savedNumber, savedRecord, canRun, begun, stopsAt, ranOf, asked}
+use Rattle.traces.specs.Traces.{saveLength, saveAt, savedNumber, savedRecord, canRun, begun, stopsAt, ranOf, asked}
 
 -- Save i stops a run.
 abbrev pub stops : List ℕ → ℕ → Bool

@@ -1,4 +1,4 @@
--- `replaying::saves::save_from` meets its contract: what is left of the trace, or 222 bytes of it.
+-- `traces::save_from` meets its contract: what is left of the trace, or 222 bytes of it.
 use denote.Ref.{now}
 use mathlib.Core.Path.{_≡_, sym, _∙_}
 use Prim.Native.Nat.{_-_}
@@ -6,9 +6,9 @@ use lib.ListN.{length, take, drop, length-drop}
 use lib.Seq.{length-take-le, take-all}
 use native.Mathlib.Omega.{arith}
 use borrow.Author.Needs.{needs}
-use Rattle.replaying.specs.Traces.{saveLength}
-use Rattle.replaying.proofs.saves.save_from.Statement.{statement}
-use Rattle.replaying.proofs.saves.save_from.Tie as tie
+use Rattle.traces.specs.Traces.{saveLength}
+use Rattle.traces.proofs.save_from.Statement.{statement}
+use Rattle.traces.proofs.save_from.Tie as tie
 
 sub-rest : tie.Need-sub-rest
 sub-rest c = search needs

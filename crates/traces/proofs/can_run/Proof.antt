@@ -1,13 +1,13 @@
--- `replaying::saves::can_run` meets its contract.
+-- `traces::can_run` meets its contract.
 use denote.Ref.{now}
 use mathlib.Core.Path.{sym}
 use lib.Seq.{length-take-le}
 use borrow.Author.Tests.{eq-eqb, ne-eqb}
 use native.Mathlib.Omega.{arith}
 use borrow.Author.Needs.{needs}
-use Rattle.replaying.specs.Traces.{savedDigits, canRun}
-use Rattle.replaying.proofs.saves.can_run.Statement.{statement}
-use Rattle.replaying.proofs.saves.can_run.Tie as tie
+use Rattle.traces.specs.Traces.{savedDigits, canRun}
+use Rattle.traces.proofs.can_run.Statement.{statement}
+use Rattle.traces.proofs.can_run.Tie as tie
 
 returns : tie.Need-returns
 unfolding canRun
