@@ -39,7 +39,8 @@ use Rattle.mending.specs.Replacing.{touched, mendedRow, writes, rowsWritten}
 use Rattle.mending.specs.Replacing as replacing
 use Rattle.replacing.specs.Calls.{replaceOutcome, replacedSheet, replacedRows}
 use Rattle.sheet.specs.Calls.{judgeOutcome}
-use Rattle.verifying.specs.Verifying.{alike, compared, findingOf}
+use Rattle.alike.specs.Alike.{alike}
+use Rattle.verifying.specs.Verifying.{compared, findingOf}
 use Rattle.basics.specs.Outcomes.{refusal, codeWith, ifDone, firstRefusal}
 use Rattle.figures.specs.Figures.{FigureHolds}
 use Rattle.figures.specs.Worked.{Worked}

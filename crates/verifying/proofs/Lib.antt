@@ -1,4 +1,3 @@
-pub mod AlikeLaws
 pub mod RightLaws
 pub mod VerifyLaws
 pub mod Unique

@@ -10,8 +10,8 @@ use lib.Seq.{take-all}
 use Rattle.forms.specs.Counting.{first, count, rows}
 use Rattle.forms.specs.Forms.{Form, badAt, trailerOf, closed}
 use Rattle.forms.proofs.RowLaws.{RowsWide, length-rows}
-use Rattle.verifying.specs.Verifying.{alike}
-use Rattle.verifying.proofs.AlikeLaws.{alike-on, alike-there, alike-most, alike-bytes}
+use Rattle.alike.specs.Alike.{alike}
+use Rattle.alike.proofs.AlikeLaws.{alike-on, alike-there, alike-most, alike-bytes}
 
 -- d rows behind the first m
 following : (ℕ → List ℕ) → ℕ → ℕ → List ℕ

@@ -11,7 +11,8 @@ use Rattle.basics.specs.declared.Outcome.the-variants as outcome
 use Rattle.basics.proofs.RefusalLaws.{done, done-is}
 use Rattle.sheet.specs.Sheets.{sheetOf}
 use Rattle.sheet.specs.Calls.{judgeOutcome}
-use Rattle.verifying.specs.Verifying.{alike, compared, findingOf}
+use Rattle.alike.specs.Alike.{alike}
+use Rattle.verifying.specs.Verifying.{compared, findingOf}
 use Rattle.verifying.specs.Promises.{SheetVerified}
 use Rattle.verifying.specs.declared.verifying.Finding.the-variants as finding
 

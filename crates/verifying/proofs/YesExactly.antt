@@ -24,10 +24,11 @@ use Rattle.sheet.proofs.JudgeLaws.{judge-passed, judge-sized-up}
 use Rattle.replacing.specs.Calls.{afterAll}
 use Rattle.replacing.proofs.Demand3.{after-any-run}
 use Rattle.replacing.proofs.AnyOrder.{Call, run-keeps-length}
-use Rattle.verifying.specs.Verifying.{alike, compared, findingOf}
+use Rattle.alike.specs.Alike.{alike}
+use Rattle.verifying.specs.Verifying.{compared, findingOf}
 use Rattle.verifying.specs.declared.verifying.Finding.{Finding}
 use Rattle.verifying.specs.declared.verifying.Finding.the-variants as finding
-use Rattle.verifying.proofs.AlikeLaws.{alike-most, alike-itself, alike-bytes, alike-no-more}
+use Rattle.alike.proofs.AlikeLaws.{alike-most, alike-itself, alike-bytes, alike-no-more}
 
 -- An offset below the sheet's length: every byte before it is right, and that byte is wrong.
 abbrev pub FirstWrong : List ℕ → List ℕ → ℕ → Type 0

@@ -1,20 +1,15 @@
 -- Document 02, wish 12: a sheet that somebody else wrote is the one that the list is judged to, or wrong from a byte on.
-use Prim.Native.Nat.{ℕ, suc}
+use Prim.Native.Nat.{ℕ}
 use mathlib.Core.Bool.{cond}
-use mathlib.Core.List.{List, [], _∷_}
+use mathlib.Core.List.{List}
 use lib.ListN.{length}
 use lib.Dec.{eqb}
 use Rattle.basics.specs.Outcomes.{ifDone}
+use Rattle.alike.specs.Alike.{alike}
 use Rattle.sheet.specs.Sheets.{sheetOf}
 use Rattle.sheet.specs.Calls.{judgeOutcome}
 use Rattle.verifying.specs.declared.verifying.Finding.{Finding}
 use Rattle.verifying.specs.declared.verifying.Finding.the-variants as finding
-
--- How many bytes two texts have alike in front: in texts of one length, the offset of their first difference.
-unfoldable pub alike : List ℕ → List ℕ → ℕ
-alike [] b = 0
-alike (x ∷ a) [] = 0
-alike (x ∷ a) (y ∷ b) = cond (eqb x y) (suc (alike a b)) 0
 
 -- A sheet beside the right one: alike to its end, or wrong at the first byte that differs.
 unfoldable pub compared : List ℕ → List ℕ → Finding

@@ -1,4 +1,5 @@
 // How far a sheet is right: rows are compared as they are judged, and no second sheet is kept.
+use alike::alike_in_front;
 use chains::chaining::RECORD_NUMBERS;
 use chains::keys::SLOTS;
 use clashes::CODES;
@@ -18,25 +19,7 @@ ghost use Rattle.forms.specs.OwnForm.{rowWidth};
 ghost use Rattle.sheet.specs.Sheets.{rowOf, judgedSheet};
 ghost use Rattle.sheet.specs.Entered.{Entered, everybody};
 ghost use Rattle.sheet.specs.Promises.{Sized};
-ghost use Rattle.verifying.specs.Verifying.{alike};
-
-// How many bytes two texts have alike in front.
-fn alike_in_front(a: &[u8], b: &[u8]) -> usize
-    ensures { λ r. ⌜ r ≡ alike (now (a .entry)) (now (b .entry)) ⌝ }
-{
-    let mut i = 0;
-    while i < a.len() {
-        if i == b.len() {
-            return b.len();
-        }
-        let next = i + 1;
-        if a[i] != b[i] {
-            return i;
-        }
-        i = next;
-    }
-    i
-}
+ghost use Rattle.alike.specs.Alike.{alike};
 
 // How many bytes of row i + 1 are right, where the stations before it are entered; then its station is entered too.
 fn right_in_row(

@@ -10,7 +10,7 @@ use Rattle.sheet.specs.Sheets.{rowOf}
 use Rattle.sheet.specs.Entered.{Entered, everybody}
 use Rattle.sheet.proofs.SheetLaws.{rows-wide}
 use Rattle.sheet.proofs.EnteredLaws.{none-entered}
-use Rattle.verifying.specs.Verifying.{alike}
+use Rattle.alike.specs.Alike.{alike}
 use Rattle.verifying.proofs.RightLaws.{row-right, row-wrong}
 use native.Mathlib.Omega.{arith}
 use borrow.Author.Needs.{needs}

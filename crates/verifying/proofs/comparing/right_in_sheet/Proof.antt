@@ -13,8 +13,8 @@ use Rattle.forms.specs.Forms.{trailerOf}
 use Rattle.forms.specs.OwnForm.{form, rowWidth, trailerLength}
 use Rattle.sheet.specs.Sheets.{rowOf, judgedSheet}
 use Rattle.sheet.proofs.SheetLaws.{rows-wide}
-use Rattle.verifying.specs.Verifying.{alike}
-use Rattle.verifying.proofs.AlikeLaws.{alike-most}
+use Rattle.alike.specs.Alike.{alike}
+use Rattle.alike.proofs.AlikeLaws.{alike-most}
 use Rattle.verifying.proofs.RightLaws.{rows-decide, trailer-decides}
 use native.Mathlib.Omega.{arith}
 use borrow.Author.Needs.{needs}

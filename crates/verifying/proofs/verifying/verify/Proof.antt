@@ -8,7 +8,7 @@ use Rattle.basics.proofs.RefusalLaws.{done, went-on}
 use Rattle.sheet.specs.Sheets.{judgedSheet, sheetOf}
 use Rattle.sheet.specs.Calls.{judgeOutcome}
 use Rattle.sheet.proofs.JudgeLaws.{judge-sized-up, sized-at}
-use Rattle.verifying.specs.Verifying.{alike}
+use Rattle.alike.specs.Alike.{alike}
 use Rattle.verifying.proofs.VerifyLaws.{verify-refused, verify-right, verify-wrong}
 use borrow.Author.Needs.{needs}
 use Rattle.verifying.proofs.verifying.verify.Statement.{statement}

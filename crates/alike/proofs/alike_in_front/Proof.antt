@@ -1,14 +1,14 @@
--- `verifying::comparing::alike_in_front` meets its contract: all that was passed is alike.
+-- `alike::alike_in_front` meets its contract: all that was passed is alike.
 use mathlib.Core.Path.{_≡_, sym, _∙_}
 use Prim.Native.Nat.{_+_, _-_, _≤_}
 use native.Mathlib.Nat.{zero-add}
 use lib.ListN.{length, drop}
-use Rattle.verifying.specs.Verifying.{alike}
-use Rattle.verifying.proofs.AlikeLaws.{first-ended, second-ended, next-differs, next-alike}
+use Rattle.alike.specs.Alike.{alike}
+use Rattle.alike.proofs.AlikeLaws.{first-ended, second-ended, next-differs, next-alike}
 use native.Mathlib.Omega.{arith}
 use borrow.Author.Needs.{needs}
-use Rattle.verifying.proofs.comparing.alike_in_front.Statement.{statement}
-use Rattle.verifying.proofs.comparing.alike_in_front.Tie as tie
+use Rattle.alike.proofs.alike_in_front.Statement.{statement}
+use Rattle.alike.proofs.alike_in_front.Tie as tie
 
 abbrev Inv-loop : tie.InvT-loop
 Inv-loop a b i₀ i = (i ≤ length a) × (i ≤ length b) × (alike a b ≡ i + alike (drop i a) (drop i b))

@@ -10,7 +10,7 @@ use lib.Dec.{eqb}
 use lib.ListN.{length, getD, take, drop, drop-of-length-le}
 use lib.Seq.{drop-cons}
 use borrow.Author.Tests.{eq-eqb, ne-eqb, eqb-true, eqb-false}
-use Rattle.verifying.specs.Verifying.{alike}
+use Rattle.alike.specs.Alike.{alike}
 
 none-alike : (a : List ℕ) → alike a [] ≡ 0
 unfolding alike
