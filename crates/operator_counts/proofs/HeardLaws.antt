@@ -9,7 +9,7 @@ use lib.ListN.{length, getD, take, drop}
 use lib.IntN.{pos}
 use borrow.Author.Tests.{eqb-true, leb-true, ltb-true}
 use Rattle.columns.specs.Sets.{isDigit}
-use Rattle.columns.specs.Texts.{each}
+use Rattle.columns.specs.Texts.{each, every}
 use Rattle.columns.proofs.TextLaws.{and-split, and-both}
 use Rattle.numerals.specs.Numbers.{numberFrom, number, spellDigits, spellWhole}
 use Rattle.decimals.specs.Decimals.{decimalFits}
@@ -120,7 +120,15 @@ digits (a ∷ b ∷ []) e =
     }
 digits (a ∷ b ∷ c ∷ p) e = absurd (false≢true (and-split (isDigit b) false (and-split (isDigit a) (isDigit b && false) e .1) .1))
 
--- They say a number below a hundred,
+-- They are digits and no more than a number has,
+pub two-digits : (p : List ℕ) → TwoDigits p → (length p ≤ 18) × (every isDigit p ≡ true)
+unfolding each every
+two-digits [] e = absurd (false≢true e)
+two-digits (a ∷ []) e = absurd (false≢true (and-split (isDigit a) false e .1))
+two-digits (a ∷ b ∷ []) e = (omega arith, e)
+two-digits (a ∷ b ∷ c ∷ p) e = absurd (false≢true (and-split (isDigit b) false (and-split (isDigit a) (isDigit b && false) e .1) .1))
+
+-- say a number below a hundred,
 pub number-below : (p : List ℕ) → TwoDigits p → number p < operators
 number-below p e =
     let d = digits p e in

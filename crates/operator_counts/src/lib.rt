@@ -1,17 +1,14 @@
 // What the stations of a file say of their operators: how many there are of each, and the lowest and the highest transmit frequency, in one pass.
 use frequencies::Frequency;
 use frequencies::Hertz;
+use numerals::number_of;
 use stations::code;
 use stations::operator;
 use stations::transmit;
 ghost use mathlib.Core.Path.{_≡_};
 ghost use mathlib.Core.Bool.{true};
-ghost use mathlib.Core.List.{[], _∷_};
 ghost use Prim.Native.Nat.{_+_, _*_, _≤_, _<_};
 ghost use lib.ListN.{length};
-ghost use Rattle.columns.specs.Sets.{isDigit};
-ghost use Rattle.columns.specs.Texts.{each};
-ghost use Rattle.numerals.specs.Numbers.{number};
 ghost use Rattle.frequencies.specs.Frequencies.{frequencyFits};
 ghost use Rattle.basics.specs.Fields.{recordLength};
 ghost use Rattle.files.specs.Files.{mostStations};
@@ -66,16 +63,6 @@ fn hundredths_of(v: Frequency) -> Hundredths
     }
 }
 
-// The number of an operator whose code is two digits.
-fn number_of(digits: &[u8]) -> usize
-    requires { ⌜ each (isDigit ∷ isDigit ∷ []) (now digits) ≡ true ⌝ }
-    ensures { λ r. ⌜ r ≡ number (now (digits .entry)) ⌝ }
-{
-    let tens = (digits[0] - 48) as usize;
-    let ones = (digits[1] - 48) as usize;
-    tens * 10 + ones
-}
-
 // What is heard of station k.
 fn heard_of(file: &[u8], k: usize) -> Heard
     requires { ⌜ recordLength * k + recordLength ≤ length (now file) ⌝ }
@@ -84,7 +71,7 @@ fn heard_of(file: &[u8], k: usize) -> Heard
     if code(file, k) != 0 {
         return Heard::Nothing;
     }
-    let c = number_of(operator(file, k));
+    let c = number_of(operator(file, k)) as usize;
     let frequency = transmit(file, k);
     Heard::Station(c, hundredths_of(frequency))
 }

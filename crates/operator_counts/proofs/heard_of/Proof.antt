@@ -3,7 +3,7 @@ use denote.Ref.{now}
 use mathlib.Core.Path.{sym, _∙_}
 use borrow.Author.Tests.{eq-eqb, ne-eqb}
 use Rattle.operator_counts.specs.Counts.{heardAt}
-use Rattle.operator_counts.proofs.HeardLaws.{operator-digits, transmit-fits}
+use Rattle.operator_counts.proofs.HeardLaws.{operator-digits, two-digits, transmit-fits}
 use borrow.Author.Needs.{needs}
 use Rattle.operator_counts.proofs.heard_of.Statement.{statement}
 use Rattle.operator_counts.proofs.heard_of.Tie as tie
@@ -24,7 +24,7 @@ number-of-requires : tie.Need-number-of-requires
 number-of-requires c κs =
     let s = c .before .before .before .before in
     let good = sym (c .before .before .code .ensures) ∙ c .before .if1 .left in
-    rw (c .operator .ensures) (operator-digits (now (s .args .file)) (s .args .k) good)
+    rw (c .operator .ensures) (two-digits _ (operator-digits (now (s .args .file)) (s .args .k) good))
 
 transmit-requires : tie.Need-transmit-requires
 transmit-requires c κs = search needs
