@@ -1,7 +1,7 @@
 // The calls for carriages: a carriage's line as a record, and the vehicle number in a name.
 use answers::answer;
 use carriage_lines::carriage_to_record;
-use vehicles::names::number_in;
+use vehicle_names::number_in;
 ghost use Rattle.desk_lists.specs.Carriages.{CarriageRecordIn, NumberLocated};
 
 // Writes the station of a carriage as a record into the lent bytes: 7, 6, 10, 11, 14, 15, 16, 9 with its code, or 0.

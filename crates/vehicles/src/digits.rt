@@ -32,7 +32,7 @@ fn doubled(d: usize) -> usize
 }
 
 // Twelve digits.
-pub(crate) fn is_number(number: &[u8]) -> bool
+pub fn is_number(number: &[u8]) -> bool
     ensures { λ r. ⌜ r ≡ isNumber (now (number .entry)) ⌝ }
 {
     if number.len() != NUMBER_DIGITS {
@@ -58,7 +58,7 @@ fn digit_sum(number: &[u8]) -> usize
 }
 
 // The last of twelve digits brings the sum over the others to a multiple of ten.
-pub(crate) fn is_last_right(number: &[u8]) -> bool
+pub fn is_last_right(number: &[u8]) -> bool
     requires { ⌜ length (now number) ≡ numberDigits ⌝ }
     ensures { λ r. ⌜ r ≡ lastRight (now (number .entry)) ⌝ }
 {

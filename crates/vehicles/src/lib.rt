@@ -1,4 +1,3 @@
-// UIC vehicle numbers: twelve digits of which the last checks the others, and the names of stations that hold one.
+// UIC vehicle numbers: twelve digits of which the last checks the others. The names that hold one are defined here, and made and read in `vehicle_names`.
 
 pub mod digits;
-pub mod names;

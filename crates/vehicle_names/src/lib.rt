@@ -1,13 +1,13 @@
 // The name of a station on a carriage, and the vehicle number in it.
-use crate::digits::is_last_right;
-use crate::digits::is_number;
 use columns::texts::equal;
 use columns::texts::write_text;
+use vehicles::digits::is_last_right;
+use vehicles::digits::is_number;
 ghost use mathlib.Core.Path.{_≡_};
 ghost use lib.ListN.{length};
 ghost use Rattle.vehicles.specs.Digits.{numberDigits};
 ghost use Rattle.vehicles.specs.Names.{nameOf, holdsNumber};
 ghost use Rattle.vehicles.specs.Promises.{NumberFound};
 
 // Puts the name of the carriage with the given number into twenty lent bytes.
 fn put_name(name: &mut [u8], number: &[u8])

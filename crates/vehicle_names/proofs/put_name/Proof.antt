@@ -1,12 +1,12 @@
--- `vehicles::names::put_name` meets its contract: three pieces, one after the other.
+-- `vehicle_names::put_name` meets its contract: three pieces, one after the other.
 use native.Mathlib.Omega.{arith}
 use mathlib.Core.Path.{_≡_, refl}
 use lib.ListN.{length}
 use Rattle.basics.proofs.WriteLaws.{nothing-yet, then-text, all-written}
 use Rattle.vehicles.specs.Names.{before, behind, nameOf}
 use borrow.Author.Needs.{needs}
-use Rattle.vehicles.proofs.names.put_name.Statement.{statement}
-use Rattle.vehicles.proofs.names.put_name.Tie as tie
+use Rattle.vehicle_names.proofs.put_name.Statement.{statement}
+use Rattle.vehicle_names.proofs.put_name.Tie as tie
 
 sub-write-text : tie.Need-sub-write-text
 sub-write-text c = search needs

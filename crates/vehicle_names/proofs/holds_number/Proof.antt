@@ -1,10 +1,10 @@
--- `vehicles::names::holds_number` meets its contract.
+-- `vehicle_names::holds_number` meets its contract.
 use borrow.Author.Tests.{not-true, not-false}
 use Rattle.vehicles.specs.Names.{holdsNumber}
 use Rattle.vehicles.proofs.NameLaws.{other-length}
 use borrow.Author.Needs.{needs}
-use Rattle.vehicles.proofs.names.holds_number.Statement.{statement}
-use Rattle.vehicles.proofs.names.holds_number.Tie as tie
+use Rattle.vehicle_names.proofs.holds_number.Statement.{statement}
+use Rattle.vehicle_names.proofs.holds_number.Tie as tie
 
 returns : tie.Need-returns
 returns c = other-length _ (c .if1 .taken)

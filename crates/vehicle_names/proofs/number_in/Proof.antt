@@ -1,15 +1,15 @@
--- `vehicles::names::number_in` meets its contract: the piece behind the first five bytes, or nothing.
+-- `vehicle_names::number_in` meets its contract: the piece behind the first five bytes, or nothing.
 use denote.Ref.{now, ptr}
 use mathlib.Core.Path.{_≡_, sym, _∙_}
 use mathlib.Core.Bool.{true, false}
 use lib.ListN.{length}
 use borrow.Author.Tests.{not-true, not-false}
 use Rattle.basics.proofs.StandLaws.{cut-at, front-at}
 use Rattle.vehicles.specs.Names.{holdsNumber}
 use Rattle.vehicles.proofs.NameLaws.{holding-twenty, found-there, found-nothing}
 use borrow.Author.Needs.{needs}
-use Rattle.vehicles.proofs.names.number_in.Statement.{statement}
-use Rattle.vehicles.proofs.names.number_in.Tie as tie
+use Rattle.vehicle_names.proofs.number_in.Statement.{statement}
+use Rattle.vehicle_names.proofs.number_in.Tie as tie
 
 holds-number-requires : tie.Need-holds-number-requires
 holds-number-requires c κs = search needs
