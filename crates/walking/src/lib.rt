@@ -1,4 +1,4 @@
-// Judging a record by any two tables: one loop over the entries of its fields, one over the rows that bind fields together.
+// What any two tables say of a record: an entry of one field, by itself and with the rows of its code; a loop over the rows that bind fields together.
 pub mod parts;
 
 use crate::parts::piece;
@@ -10,11 +10,8 @@ ghost use mathlib.Core.Path.{_≡_};
 ghost use mathlib.Core.List.{[]};
 ghost use Prim.Native.Nat.{_<_};
 ghost use lib.ListN.{length, getD};
-ghost use Rattle.basics.specs.Rules.{firstBroken};
 ghost use Rattle.flaws.specs.Flaws.{flawless};
-ghost use Rattle.flaw_parts.specs.Parts.{flawWith, flawlessAll};
-ghost use Rattle.walking.specs.Walks.{fieldBehind, standsBy, keptBy, firstRow, flawBehind, flawsBy};
-ghost use Rattle.walking.specs.Promises.{Walked};
+ghost use Rattle.walking.specs.Walks.{fieldBehind, standsBy, keptBy, firstRow, flawBehind};
 
 // What a walk found: the first broken code, 0 where none is, and its flaw.
 pub struct Found {
@@ -78,7 +75,7 @@ fn is_kept(
 }
 
 // The code of the first row that is broken, of those from low to high; 0 where none is.
-fn first_row(
+pub fn first_row(
     entries: &[[usize; 6]],
     rows: &[[usize; 7]],
     rec: &[u8],
@@ -98,7 +95,7 @@ fn first_row(
 }
 
 // Whether nothing is wrong.
-fn is_flawless(flaw: Flaw) -> bool
+pub fn is_flawless(flaw: Flaw) -> bool
     ensures { λ r. ⌜ r ≡ flawless flaw ⌝ }
 {
     match flaw {
@@ -111,7 +108,7 @@ fn is_flawless(flaw: Flaw) -> bool
 }
 
 // The flaw of field i, counted from 0; a unit that is at odds with its frequency, by a row of its code, is outside its range.
-fn flaw_behind(entries: &[[usize; 6]], rows: &[[usize; 7]], rec: &[u8], i: usize) -> Flaw
+pub fn flaw_behind(entries: &[[usize; 6]], rows: &[[usize; 7]], rec: &[u8], i: usize) -> Flaw
     requires { ⌜ i < length (now entries) ⌝ }
     ensures { λ r. ⌜ r ≡ flawBehind (now (entries .entry)) (now (rec .entry)) (now (rows .entry)) i ⌝ }
 {
@@ -129,42 +126,4 @@ fn flaw_behind(entries: &[[usize; 6]], rows: &[[usize; 7]], rec: &[u8], i: usize
     }
     let k = i + 1;
     range_flaw(first_row(entries, rows, rec, k, k) == 0)
-}
-
-// The first field that has a flaw, counted from 1, and the flaw.
-fn first_flaw(entries: &[[usize; 6]], rows: &[[usize; 7]], rec: &[u8]) -> Found
-    ensures { λ r. ⌜ (r .code ≡ firstBroken 1 (flawlessAll (flawsBy (now (entries .entry)) (now (rec .entry)) (now (rows .entry)))))
-        × (r .flaw ≡ flawWith (flawsBy (now (entries .entry)) (now (rec .entry)) (now (rows .entry))) (r .code)) ⌝ }
-{
-    let mut i: usize = 0;
-    while i < entries.len() {
-        let flaw = flaw_behind(entries, rows, rec, i);
-        if !is_flawless(flaw) {
-            return Found { code: 1 + i, flaw };
-        }
-        i += 1;
-    }
-    Found {
-        code: 0,
-        flaw: Flaw::None,
-    }
-}
-
-// The first broken code of a record by two tables, and its flaw: the fields, and where none is broken the rows of higher codes.
-pub fn walk(entries: &[[usize; 6]], rows: &[[usize; 7]], rec: &[u8]) -> Found
-    ensures { λ r. ⌜ Walked (now (entries .entry)) (now (rows .entry)) (now (rec .entry)) r ⌝ }
-{
-    let found = first_flaw(entries, rows, rec);
-    if found.code != 0 {
-        return found;
-    }
-    let from = entries.len();
-    let code = first_row(entries, rows, rec, from + 1, 255);
-    if code == 0 {
-        return found;
-    }
-    Found {
-        code,
-        flaw: Flaw::Between,
-    }
 }

@@ -1,4 +1,4 @@
--- `walking::first_flaw` meets its contract: the fields that were passed have no flaw.
+-- `table_judging::first_flaw` meets its contract: the fields that were passed have no flaw.
 use Prim.Native.Nat.{_+_, _-_, _≤_, _<_}
 use mathlib.Core.Path.{_≡_, refl, sym, ap, _∙_}
 use native.Mathlib.Omega.{arith}
@@ -10,11 +10,11 @@ use Rattle.basics.proofs.RuleLaws.{rule-on, rule-off, rule-end}
 use Rattle.flaws.specs.Flaws.{flawless}
 use Rattle.flaws.specs.declared.Flaw.the-variants as flaw
 use Rattle.flaw_parts.specs.Parts.{flawlessAll}
 use Rattle.walking.specs.Walks.{flawsBy}
 use Rattle.walking.proofs.WalkLaws.{flaws-many, flaw-at, rules-at, rules-many, with-at}
 use borrow.Author.Needs.{needs}
-use Rattle.walking.proofs.first_flaw.Statement.{statement}
-use Rattle.walking.proofs.first_flaw.Tie as tie
+use Rattle.table_judging.proofs.first_flaw.Statement.{statement}
+use Rattle.table_judging.proofs.first_flaw.Tie as tie
 
 abbrev Inv-loop : tie.InvT-loop
 Inv-loop entries rows rec i₀ i = let rules = flawlessAll (flawsBy entries rec rows) in firstBroken 1 rules ≡ firstBroken (1 + i) (drop i rules)

@@ -1,15 +1,15 @@
--- `walking::walk` meets its contract: the fields, and where none is broken the rows above them.
+-- `table_judging::walk` meets its contract: the fields, and where none is broken the rows above them.
 use Prim.Native.Nat.{_+_, _≤_}
 use mathlib.Core.Path.{_≡_, sym, _∙_}
 use native.Mathlib.Omega.{arith}
 use lib.ListN.{length}
 use denote.Ref.{now}
 use Rattle.walking.specs.Walks.{flawsBy}
 use Rattle.walking.specs.Promises.{Walked}
 use Rattle.walking.proofs.WalkLaws.{flaws-many, rules-many, with-above, rows-above, from-fields, from-rows}
 use borrow.Author.Needs.{needs}
-use Rattle.walking.proofs.walk.Statement.{statement}
-use Rattle.walking.proofs.walk.Tie as tie
+use Rattle.table_judging.proofs.walk.Statement.{statement}
+use Rattle.table_judging.proofs.walk.Tie as tie
 
 first-flaw-requires : tie.Need-first-flaw-requires
 first-flaw-requires c κs = search needs
