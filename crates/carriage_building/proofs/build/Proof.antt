@@ -1,4 +1,4 @@
--- `carriage::build` meets its contract, refusal by refusal.
+-- `carriage_building::build` meets its contract, refusal by refusal.
 use denote.Ref.{now}
 use mathlib.Core.Path.{_≡_, sym, ap, _∙_}
 use mathlib.Core.Bool.{true, false, not}
@@ -8,11 +8,11 @@ use Rattle.basics.proofs.RefusalLaws.{done, went-on, stopped}
 use Rattle.station.specs.Codes.{typedCode}
 use Rattle.vehicles.specs.Digits.{numberDigits}
 use Rattle.vehicles.proofs.NameLaws.{number-length}
 use Rattle.carriage.specs.Building.{areDefaults}
 use Rattle.carriage.proofs.BuildLaws.{number-passed, number-refused, defaults-refused, rule-refused, handed-out}
 use borrow.Author.Needs.{needs}
-use Rattle.carriage.proofs.build.Statement.{statement}
-use Rattle.carriage.proofs.build.Tie as tie
+use Rattle.carriage_building.proofs.build.Statement.{statement}
+use Rattle.carriage_building.proofs.build.Tie as tie
 
 check-number-requires : tie.Need-check-number-requires
 check-number-requires c κs = search needs

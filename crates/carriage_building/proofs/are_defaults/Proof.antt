@@ -1,9 +1,9 @@
--- `carriage::are_defaults` meets its contract.
+-- `carriage_building::are_defaults` meets its contract.
 use borrow.Author.Tests.{eq-eqb, ne-eqb}
 use Rattle.carriage.specs.Building.{areDefaults}
 use borrow.Author.Needs.{needs}
-use Rattle.carriage.proofs.are_defaults.Statement.{statement}
-use Rattle.carriage.proofs.are_defaults.Tie as tie
+use Rattle.carriage_building.proofs.are_defaults.Statement.{statement}
+use Rattle.carriage_building.proofs.are_defaults.Tie as tie
 
 typed-code-requires : tie.Need-typed-code-requires
 typed-code-requires c κs = search needs
