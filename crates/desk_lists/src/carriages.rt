@@ -1,6 +1,6 @@
 // The calls for carriages: a carriage's line as a record, and the vehicle number in a name.
 use answers::answer;
-use carriage_lines::carriage_to_record;
+use carriage_filing::carriage_to_record;
 use vehicle_names::number_in;
 ghost use Rattle.desk_lists.specs.Carriages.{CarriageRecordIn, NumberLocated};
 

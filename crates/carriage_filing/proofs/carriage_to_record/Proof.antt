@@ -1,13 +1,13 @@
--- `carriage_lines::carriage_to_record` meets its contract: it is refused for the first reason, or the record is made.
+-- `carriage_filing::carriage_to_record` meets its contract: it is refused for the first reason, or the record is made.
 use denote.Ref.{now}
 use mathlib.Core.Path.{sym, _∙_}
 use borrow.Author.Tests.{not-true}
 use Rattle.basics.proofs.RefusalLaws.{went-on}
 use Rattle.carriage_lines.proofs.GivenLaws.{given-record, given-short, given-digits}
 use Rattle.carriage_lines.proofs.CallLaws.{not-the-length, given-refused, made-filed}
 use borrow.Author.Needs.{needs}
-use Rattle.carriage_lines.proofs.carriage_to_record.Statement.{statement}
-use Rattle.carriage_lines.proofs.carriage_to_record.Tie as tie
+use Rattle.carriage_filing.proofs.carriage_to_record.Statement.{statement}
+use Rattle.carriage_filing.proofs.carriage_to_record.Tie as tie
 
 returns : tie.Need-returns
 returns c =

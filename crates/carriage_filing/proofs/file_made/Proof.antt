@@ -1,12 +1,12 @@
--- `carriage_lines::file_made` meets its contract: the record is made and read, and its station written.
+-- `carriage_filing::file_made` meets its contract: the record is made and read, and its station written.
 use denote.Ref.{now}
 use mathlib.Core.Path.{refl, sym, ap, _∙_}
 use lib.ListN.{replicate}
 use Rattle.carriage_lines.specs.Lines.{carriageRecord}
 use Rattle.carriage_lines.proofs.CallLaws.{copied, made-done, made-broken}
 use borrow.Author.Needs.{needs}
-use Rattle.carriage_lines.proofs.file_made.Statement.{statement}
-use Rattle.carriage_lines.proofs.file_made.Tie as tie
+use Rattle.carriage_filing.proofs.file_made.Statement.{statement}
+use Rattle.carriage_filing.proofs.file_made.Tie as tie
 
 slice-aggregate-write-text : tie.Need-slice-aggregate-write-text
 slice-aggregate-write-text c = search needs
