@@ -1,2 +1,1 @@
-pub mod PageLines
 pub mod Unique

@@ -1,8 +1,8 @@
 // Operators: reads a filing file from standard input and prints a line for each operator, and the total.
 use files::lengths::MOST_BYTES;
 use intake::read_input;
-use operator_lines::pages::LONGEST_PAGE;
-use operator_lines::pages::write_operators;
+use operator_reports::LONGEST_PAGE;
+use operator_reports::write_operators;
 ghost use mathlib.Core.Path.{_≡_};
 ghost use Prim.Native.Nat.{_+_, _*_};
 ghost use lib.ListN.{length};

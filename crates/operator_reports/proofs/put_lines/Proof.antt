@@ -1,9 +1,9 @@
--- `operator_lines::pages::put_lines` meets its contract: the lines of the rows, and the total.
+-- `operator_reports::put_lines` meets its contract: the lines of the rows, and the total.
 use Rattle.printing.proofs.AppendLaws.{then}
 use Rattle.operator_lines.specs.Lines.{pageLines}
 use borrow.Author.Needs.{needs}
-use Rattle.operator_lines.proofs.pages.put_lines.Statement.{statement}
-use Rattle.operator_lines.proofs.pages.put_lines.Tie as tie
+use Rattle.operator_reports.proofs.put_lines.Statement.{statement}
+use Rattle.operator_reports.proofs.put_lines.Tie as tie
 
 put-operators-requires : tie.Need-put-operators-requires
 put-operators-requires c κs = search needs

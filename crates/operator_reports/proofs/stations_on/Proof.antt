@@ -1,14 +1,14 @@
--- `operator_lines::pages::stations_on` meets its contract: so many rows are summed.
+-- `operator_reports::stations_on` meets its contract: so many rows are summed.
 use mathlib.Core.Path.{_≡_, refl, ap, _∙_}
 use Prim.Native.Nat.{ℕ, _+_, _-_, _*_, _≤_}
 use native.Mathlib.Numerals.{add-one}
 use Rattle.operator_pages.specs.declared.OperatorRow.{OperatorRow}
 use Rattle.operator_pages.specs.Calls.{rowAt}
 use Rattle.operator_lines.specs.Lines.{pageSum}
 use native.Mathlib.Omega.{arith}
 use borrow.Author.Needs.{needs}
-use Rattle.operator_lines.proofs.pages.stations_on.Statement.{statement}
-use Rattle.operator_lines.proofs.pages.stations_on.Tie as tie
+use Rattle.operator_reports.proofs.stations_on.Statement.{statement}
+use Rattle.operator_reports.proofs.stations_on.Tie as tie
 
 abbrev Inv-loop : tie.InvT-loop
 Inv-loop page n sum₀ i₀ sum i = (i ≤ n) × (sum ≡ pageSum page i) × (sum ≤ 65535 * i)

@@ -1,4 +1,4 @@
--- `operator_lines::pages::put_operators` meets its contract: the lines of so many rows stand, each behind the one before it.
+-- `operator_reports::put_operators` meets its contract: the lines of so many rows stand, each behind the one before it.
 use denote.Ref.{now}
 use mathlib.Core.Path.{_≡_}
 use Prim.Native.Nat.{_+_, _-_, _*_, _≤_, zero-le}
@@ -7,11 +7,11 @@ use Rattle.forms.specs.Counting.{rows}
 use Rattle.printing.specs.Promises.{Appended}
 use Rattle.printing.proofs.AppendLaws.{none, then}
 use Rattle.printing.proofs.LineLaws.{rows-more}
 use Rattle.operator_lines.specs.Lines.{pageLine}
 use native.Mathlib.Omega.{arith}
 use borrow.Author.Needs.{needs}
-use Rattle.operator_lines.proofs.pages.put_operators.Statement.{statement}
-use Rattle.operator_lines.proofs.pages.put_operators.Tie as tie
+use Rattle.operator_reports.proofs.put_operators.Statement.{statement}
+use Rattle.operator_reports.proofs.put_operators.Tie as tie
 
 abbrev Inv-loop : tie.InvT-loop
 Inv-loop out₀ page n end₀ i₀ out end i = (i ≤ n) × (length out ≡ length out₀) × (end ≤ 197 * i) × Appended out₀ 0 (rows (pageLine page) i) out end

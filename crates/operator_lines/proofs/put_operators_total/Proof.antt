@@ -1,9 +1,9 @@
--- `operator_lines::lines::put_operators_total` meets its contract: three numbers behind their labels, and the end of the line.
+-- `operator_lines::put_operators_total` meets its contract: three numbers behind their labels, and the end of the line.
 use Rattle.printing.proofs.AppendLaws.{then}
 use Rattle.operator_lines.specs.Lines.{operatorsLine}
 use borrow.Author.Needs.{needs}
-use Rattle.operator_lines.proofs.lines.put_operators_total.Statement.{statement}
-use Rattle.operator_lines.proofs.lines.put_operators_total.Tie as tie
+use Rattle.operator_lines.proofs.put_operators_total.Statement.{statement}
+use Rattle.operator_lines.proofs.put_operators_total.Tie as tie
 
 slice-aggregate-put-counted : tie.Need-slice-aggregate-put-counted
 slice-aggregate-put-counted c = search needs

@@ -1,10 +1,10 @@
-// What the program prints: a line for each operator, and the total.
-use crate::lines::put_operator;
-use crate::lines::put_operators_total;
+// What the program prints of a file: a line for each operator, and the total.
 use basics::outcomes::is_done;
 use basics::outcomes::refusal_number;
 use files::lengths::stations_in;
 use operator_counts::OPERATORS;
+use operator_lines::put_operator;
+use operator_lines::put_operators_total;
 use operator_pages::Page;
 use operator_pages::page_for;
 use operator_pages::row_at;

@@ -1,10 +1,10 @@
--- `operator_lines::lines::put_operator` meets its contract: the counts, the lowest and the highest frequency, and the end of the line.
+-- `operator_lines::put_operator` meets its contract: the counts, the lowest and the highest frequency, and the end of the line.
 use Rattle.printing.proofs.AppendLaws.{then}
 use Rattle.operator_lines.specs.Lines.{operatorLine}
 use native.Mathlib.Omega.{arith}
 use borrow.Author.Needs.{needs}
-use Rattle.operator_lines.proofs.lines.put_operator.Statement.{statement}
-use Rattle.operator_lines.proofs.lines.put_operator.Tie as tie
+use Rattle.operator_lines.proofs.put_operator.Statement.{statement}
+use Rattle.operator_lines.proofs.put_operator.Tie as tie
 
 slice-aggregate-put-counts : tie.Need-slice-aggregate-put-counts
 slice-aggregate-put-counts c = search needs

@@ -1,9 +1,9 @@
--- `operator_lines::lines::put_counted` meets its contract: the number behind its label.
+-- `operator_lines::put_counted` meets its contract: the number behind its label.
 use Rattle.printing.proofs.AppendLaws.{then}
 use native.Mathlib.Omega.{arith}
 use borrow.Author.Needs.{needs}
-use Rattle.operator_lines.proofs.lines.put_counted.Statement.{statement}
-use Rattle.operator_lines.proofs.lines.put_counted.Tie as tie
+use Rattle.operator_lines.proofs.put_counted.Statement.{statement}
+use Rattle.operator_lines.proofs.put_counted.Tie as tie
 
 put-text-requires : tie.Need-put-text-requires
 put-text-requires c κs = search needs

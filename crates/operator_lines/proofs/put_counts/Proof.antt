@@ -1,10 +1,10 @@
--- `operator_lines::lines::put_counts` meets its contract: the code, and two numbers behind their labels.
+-- `operator_lines::put_counts` meets its contract: the code, and two numbers behind their labels.
 use Rattle.printing.proofs.AppendLaws.{then}
 use Rattle.operator_lines.specs.Lines.{countsText}
 use native.Mathlib.Omega.{arith}
 use borrow.Author.Needs.{needs}
-use Rattle.operator_lines.proofs.lines.put_counts.Statement.{statement}
-use Rattle.operator_lines.proofs.lines.put_counts.Tie as tie
+use Rattle.operator_lines.proofs.put_counts.Statement.{statement}
+use Rattle.operator_lines.proofs.put_counts.Tie as tie
 
 slice-aggregate-put-text : tie.Need-slice-aggregate-put-text
 slice-aggregate-put-text c = search needs

@@ -1,4 +1,4 @@
--- `operator_lines::pages::write_operators` meets its contract: refused, or the lines of the page.
+-- `operator_reports::write_operators` meets its contract: refused, or the lines of the page.
 use denote.Ref.{now}
 use mathlib.Core.Path.{_≡_, sym, ap, _∙_}
 use Prim.Native.Nat.{ℕ}
@@ -8,11 +8,11 @@ use Rattle.printing.proofs.WriteLaws.{written}
 use Rattle.operator_counts.specs.Counts.{operators}
 use Rattle.operator_pages.proofs.PageLaws.{rows-fit}
 use Rattle.operator_pages.proofs.FoundLaws.{answer-is}
-use Rattle.operator_lines.proofs.PageLines.{refused-lines, whole-lines}
+use Rattle.operator_reports.proofs.PageLines.{refused-lines, whole-lines}
 use native.Mathlib.Omega.{arith}
 use borrow.Author.Needs.{needs}
-use Rattle.operator_lines.proofs.pages.write_operators.Statement.{statement}
-use Rattle.operator_lines.proofs.pages.write_operators.Tie as tie
+use Rattle.operator_reports.proofs.write_operators.Statement.{statement}
+use Rattle.operator_reports.proofs.write_operators.Tie as tie
 
 page-for-requires : tie.Need-page-for-requires
 page-for-requires c κs = search needs
