@@ -4,7 +4,7 @@ use Rattle.reports.proofs.SheetLaws.{sized-so}
 use Rattle.printing.proofs.WriteLaws.{few}
 use native.Mathlib.Omega.{arith}
 use Rattle.files.proofs.LengthLaws.{length-passed, whole-records}
-use Rattle.explaining.proofs.RowLaws.{judged-lines}
+use Rattle.explaining.proofs.FileLaws.{judged-lines}
 use borrow.Author.Needs.{needs}
 use Rattle.explaining.proofs.put_judged.Statement.{statement}
 use Rattle.explaining.proofs.put_judged.Tie as tie

@@ -4,7 +4,7 @@ use mathlib.Core.Path.{_≡_}
 use Prim.Native.Nat.{_+_, _-_, _*_, _≤_}
 use lib.ListN.{length}
 use Rattle.forms.specs.Counting.{rows}
-use Rattle.explaining.specs.Explanations.{rowExplained}
+use Rattle.explained_rows.specs.Rows.{rowExplained}
 use Rattle.printing.specs.Promises.{Appended}
 use Rattle.printing.proofs.AppendLaws.{none, then}
 use Rattle.printing.proofs.LineLaws.{rows-more}

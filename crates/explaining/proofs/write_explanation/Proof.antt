@@ -7,7 +7,7 @@ use Rattle.basics.specs.declared.Outcome.{Outcome}
 use Rattle.printing.specs.Lines.{refusedLine}
 use Rattle.files.specs.Calls.{lengthOutcome}
 use Rattle.printing.proofs.WriteLaws.{turned-away, taken, written}
-use Rattle.explaining.proofs.RowLaws.{refused-file, whole-file}
+use Rattle.explaining.proofs.FileLaws.{refused-file, whole-file}
 use borrow.Author.Needs.{needs}
 use Rattle.explaining.proofs.write_explanation.Statement.{statement}
 use Rattle.explaining.proofs.write_explanation.Tie as tie

@@ -1,10 +1,10 @@
--- `explaining::put_explained` meets its contract: number, code, reason and the line's end, one behind the other.
+-- `explained_rows::put_explained` meets its contract: number, code, reason and the line's end, one behind the other.
 use native.Mathlib.Omega.{arith}
 use Rattle.printing.proofs.AppendLaws.{then}
-use Rattle.explaining.specs.Explanations.{explainedLine}
+use Rattle.explained_rows.specs.Rows.{explainedLine}
 use borrow.Author.Needs.{needs}
-use Rattle.explaining.proofs.put_explained.Statement.{statement}
-use Rattle.explaining.proofs.put_explained.Tie as tie
+use Rattle.explained_rows.proofs.put_explained.Statement.{statement}
+use Rattle.explained_rows.proofs.put_explained.Tie as tie
 
 slice-aggregate-put-labelled : tie.Need-slice-aggregate-put-labelled
 slice-aggregate-put-labelled c = search needs

@@ -1,31 +1,18 @@
--- The line of a row, and the lines of the sheet that is judged.
+-- The lines of the sheet that is judged.
 use mathlib.Core.Path.{_≡_, ap, _∙_}
 use mathlib.Core.Bool.{true, false}
-use mathlib.Core.List.{List, []}
-use Prim.Native.Nat.{ℕ, _+_}
+use mathlib.Core.List.{List}
+use Prim.Native.Nat.{ℕ}
 use Rattle.basics.specs.Outcomes.{refusal, ifDone}
 use Rattle.basics.proofs.RefusalLaws.{done}
-use Rattle.files.specs.Files.{stations, recordAt}
+use Rattle.files.specs.Files.{stations}
 use Rattle.forms.specs.Counting.{count}
-use Rattle.forms.specs.Forms.{codeIn}
-use Rattle.forms.specs.OwnForm.{rowIn, twinIn, clashIn, bad, foundIn}
+use Rattle.forms.specs.OwnForm.{bad, foundIn}
 use Rattle.sheet.specs.Sheets.{judgedSheet, sheetOf}
 use Rattle.printing.specs.Lines.{refusedLine}
 use Rattle.files.specs.Calls.{lengthOutcome}
 use Rattle.reports.proofs.SheetLaws.{bad-found}
-use Rattle.explaining.specs.Explanations.{explainedLine, rowExplained, sheetExplained, explanationOf}
-
-module _ (file sheet : List ℕ) (i : ℕ) where
-  -- A good row has no line,
-  pub good-row : bad sheet (i + 1) ≡ false → rowExplained file sheet (i + 1) ≡ []
-  unfolding rowExplained
-  good-row e = rw e
-
-  -- and a bad one the line of its code, its twin, its clash and its record.
-  pub bad-row : {c t h : ℕ} {r : List ℕ} → bad sheet (i + 1) ≡ true → c ≡ codeIn (rowIn sheet (i + 1)) → t ≡ twinIn sheet (i + 1) → h ≡ clashIn sheet (i + 1) → r ≡ recordAt file (i + 1)
-      → rowExplained file sheet (i + 1) ≡ explainedLine (i + 1) c t h r
-  unfolding rowExplained
-  bad-row e ec et eh er = rw (e, ec, et, eh, er)
+use Rattle.explaining.specs.Explanations.{sheetExplained, explanationOf}
 
 -- The lines of the sheet that judging leaves are the lines of the file's sheet.
 pub judged-lines : (file after : List ℕ) (n : ℕ) → n ≡ stations file → after ≡ judgedSheet file n

@@ -1,4 +1,4 @@
--- `explaining::put_row` meets its contract: a bad row has its line, a good one none.
+-- `explained_rows::put_row` meets its contract: a bad row has its line, a good one none.
 use native.Mathlib.Omega.{arith}
 use denote.Ref.{now}
 use mathlib.Core.Path.{_≡_, sym, ap, _∙_}
@@ -9,10 +9,10 @@ use borrow.Author.Tests.{not-true, not-false}
 use Rattle.files.proofs.FileLaws.{record-wide}
 use Rattle.forms.specs.OwnForm.{bad}
 use Rattle.printing.proofs.AppendLaws.{none}
-use Rattle.explaining.proofs.RowLaws.{good-row, bad-row}
+use Rattle.explained_rows.proofs.RowLaws.{good-row, bad-row}
 use borrow.Author.Needs.{needs}
-use Rattle.explaining.proofs.put_row.Statement.{statement}
-use Rattle.explaining.proofs.put_row.Tie as tie
+use Rattle.explained_rows.proofs.put_row.Statement.{statement}
+use Rattle.explained_rows.proofs.put_row.Tie as tie
 
 is-bad-requires : tie.Need-is-bad-requires
 is-bad-requires c κs = search needs

@@ -1,10 +1,10 @@
--- `explaining::put_ending` meets its contract: two numbers behind their labels, and the end of the line.
+-- `explained_rows::put_ending` meets its contract: two numbers behind their labels, and the end of the line.
 use native.Mathlib.Omega.{arith}
 use Rattle.printing.proofs.AppendLaws.{then}
-use Rattle.explaining.specs.Explanations.{lineEnd}
+use Rattle.explained_rows.specs.Rows.{lineEnd}
 use borrow.Author.Needs.{needs}
-use Rattle.explaining.proofs.put_ending.Statement.{statement}
-use Rattle.explaining.proofs.put_ending.Tie as tie
+use Rattle.explained_rows.proofs.put_ending.Statement.{statement}
+use Rattle.explained_rows.proofs.put_ending.Tie as tie
 
 slice-aggregate-put-labelled : tie.Need-slice-aggregate-put-labelled
 slice-aggregate-put-labelled c = search needs
