@@ -1,3 +1,4 @@
 pub mod UnitLaws
+pub mod PlaceLaws
 pub mod TableLaws
 pub mod Unique

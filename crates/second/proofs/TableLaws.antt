@@ -24,13 +24,34 @@ use Rattle.station_flaws.specs.Calls.{recordFlaw, stationFlaw, flawOfReading}
 use Rattle.walking.specs.Walks.{firstRow, flawsBy, codeBy}
 use Rattle.walking.specs.Promises.{Walked}
 use Rattle.walking.specs.declared.Found.{Found}
-use Rattle.second.proofs.UnitLaws.{flawsTold, all-told}
+use Rattle.rule_tables.specs.Told.{fieldPlaces, unitKept, EntriesTell, RowsTell}
+use Rattle.second.proofs.UnitLaws.{all-told, two-units}
+use Rattle.second.proofs.PlaceLaws.{length-kept, row-kept}
 
-module _ (entries rows : List (List ℕ)) (r : List ℕ)
-    (fields : flawsBy entries r rows ≡ flawsTold 1 stationTable (fieldsOf r))
-    (between : All (fieldRules (fieldsOf r)) → firstRow entries r (length entries + 1) 255 rows ≡ firstBroken 31 (betweenRules (valueOf r))) where
+module _ (entries rows : List (List ℕ)) (r : List ℕ) (told : EntriesTell entries) (bound : RowsTell rows) where
+  -- by the places of the station's fields
+  by-places : (low high : ℕ) → firstRow entries r low high rows ≡ firstRow fieldPlaces r low high rows
+  unfolding EntriesTell
+  by-places low high = sym (row-kept entries r low high rows) ∙ ap (λ (es : List (List ℕ)). firstRow es r low high rows) (told .0)
+
+  -- the two rows of a unit are kept
+  kept-so : (k : ℕ) → eqb (firstRow fieldPlaces r k k rows) 0 ≡ unitKept (fieldsOf r) k → eqb (firstRow entries r k k rows) 0 ≡ unitKept (fieldsOf r) k
+  kept-so k e = ap (λ (n : ℕ). eqb n 0) (by-places k k) ∙ e
+
   same-flaws : flawsBy entries r rows ≡ flawsFrom 1 stationTable (fieldsOf r)
-  same-flaws = fields ∙ all-told 0 stationTable (fieldsOf r)
+  unfolding EntriesTell RowsTell
+  same-flaws =
+      told .1 r rows
+      ∙ two-units (λ k. eqb (firstRow entries r k k rows) 0) (unitKept (fieldsOf r)) (fieldsOf r) (kept-so 2 (bound r .0)) (kept-so 25 (bound r .1))
+      ∙ all-told 0 stationTable (fieldsOf r)
+
+  thirty : length entries ≡ 30
+  unfolding EntriesTell
+  thirty = sym (length-kept entries) ∙ ap length (told .0)
+
+  between : All (fieldRules (fieldsOf r)) → firstRow entries r (length entries + 1) 255 rows ≡ firstBroken 31 (betweenRules (valueOf r))
+  unfolding RowsTell
+  between h = ap (λ (n : ℕ). firstRow entries r (n + 1) 255 rows) thirty ∙ by-places 31 255 ∙ bound r .2 h
 
   same-rules : flawlessAll (flawsBy entries r rows) ≡ fieldRules (fieldsOf r)
   unfolding fieldRules
@@ -56,12 +77,9 @@ module _ (entries rows : List (List ℕ)) (r : List ℕ)
   same-found {code} {x} h = let e = h .0 ∙ same-code in (e, h .1 ∙ ap (λ (xs : List Flaw). flawWith xs code) same-flaws ∙ ap (flawWith (flawsFrom 1 stationTable (fieldsOf r))) e)
 
 -- So what a walk finds is the first judge's code and flaw.
-pub by-tables : (entries rows : List (List ℕ)) (r : List ℕ) (found : Found) → Walked entries rows r found
-    → flawsBy entries r rows ≡ flawsTold 1 stationTable (fieldsOf r)
-    → (All (fieldRules (fieldsOf r)) → firstRow entries r (length entries + 1) 255 rows ≡ firstBroken 31 (betweenRules (valueOf r)))
-    → (found .code ≡ stationCode r) × (found .flaw ≡ stationFlaw r)
+pub by-tables : (entries rows : List (List ℕ)) (r : List ℕ) (found : Found) → Walked entries rows r found → EntriesTell entries → RowsTell rows → (found .code ≡ stationCode r) × (found .flaw ≡ stationFlaw r)
 unfolding Walked
-by-tables entries rows r found h fields between = same-found entries rows r fields between h
+by-tables entries rows r found h told bound = same-found entries rows r told bound h
 
 -- A code is at most the number of rules.
 first-bound : (k : ℕ) (rules : List Bool) → firstBroken (suc k) rules ≤ k + length rules

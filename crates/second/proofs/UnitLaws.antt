@@ -13,19 +13,13 @@ use Rattle.frequencies.specs.Frequencies.{unitGood}
 use Rattle.basics.specs.Fields.{at}
 use Rattle.fields.specs.Kinds.{Kind, amount, unit, byte, choice, text, dropped, remarks, date, dateOrBlank, tenths, kilometres, metres, metresOrBlank, position, whole, wholeOrBlank}
 use Rattle.fields.specs.Rows.{Row}
+use Rattle.fields.specs.Table.{stationTable}
 use Rattle.flaws.specs.Flaws.{flawless, ranged}
 use Rattle.flaw_parts.specs.Parts.{parts, flawIn, flawsFrom}
 use Rattle.flaws.specs.declared.Flaw.{Flaw}
 use Rattle.flaws.specs.declared.Flaw.the-variants as flaw
 use Rattle.entries.specs.Entries.{unitEntry}
-
--- Neither of the two rows of a unit is broken: filled where its frequency is, and blank where that is.
-abbrev pub rowsKept : ℕ → Bool → Bool → Bool
-rowsKept k x y = eqb (cond (not (x && not y)) (cond (not (not x && y)) 0 k) k) 0
-
--- A unit, as the two tables say it.
-abbrev pub unitTold : ℕ → List ℕ → List ℕ → Flaw
-unitTold k before p = cond (flawless (unitEntry p)) (ranged (rowsKept k (not (blank before)) (not (blank p)))) (unitEntry p)
+use Rattle.rule_tables.specs.Told.{rowsKept, unitKept, flawTold, flawsTold}
 
 agree : (k : ℕ) → (k ≡ 0 → ⊥) → (x y : Bool) → rowsKept k x y ≡ cond x y (not y)
 agree k n true true = refl
@@ -70,30 +64,12 @@ asked-last true false g t h = refl
 asked-last true true true t h = ap ranged (h refl)
 asked-last true true false t h = ap ranged (h refl)
 
-pub unit-told : (k w : ℕ) (before p : List ℕ) → (k ≡ 0 → ⊥) → unitTold k before p ≡ flawIn (parts unit w) before p
+-- a unit, as the two tables say it, is the unit that the station's table asks for
+unit-told : (k w : ℕ) (before p : List ℕ) → (k ≡ 0 → ⊥) → flawTold (rowsKept k (not (blank before)) (not (blank p))) unit w before p ≡ flawIn (parts unit w) before p
 unfolding unitEntry
 unit-told k w before p n = asked-last (every (among "kMG ") p) (byteGood (among "kMG ") p) (unitGood before p) (rowsKept k (not (blank before)) (not (blank p))) (one-letter k n before p)
 
--- The flaw of a field by its kind, a unit as the two tables say it.
-abbrev pub flawTold : ℕ → Kind → ℕ → List ℕ → List ℕ → Flaw
-flawTold k amount w before p = flawIn (parts amount w) before p
-flawTold k unit w before p = unitTold k before p
-flawTold k (byte first set) w before p = flawIn (parts (byte first set) w) before p
-flawTold k (choice xs) w before p = flawIn (parts (choice xs) w) before p
-flawTold k (text rule) w before p = flawIn (parts (text rule) w) before p
-flawTold k (dropped rule) w before p = flawIn (parts (dropped rule) w) before p
-flawTold k remarks w before p = flawIn (parts remarks w) before p
-flawTold k date w before p = flawIn (parts date w) before p
-flawTold k dateOrBlank w before p = flawIn (parts dateOrBlank w) before p
-flawTold k (tenths a sign range) w before p = flawIn (parts (tenths a sign range) w) before p
-flawTold k kilometres w before p = flawIn (parts kilometres w) before p
-flawTold k metres w before p = flawIn (parts metres w) before p
-flawTold k metresOrBlank w before p = flawIn (parts metresOrBlank w) before p
-flawTold k position w before p = flawIn (parts position w) before p
-flawTold k whole w before p = flawIn (parts whole w) before p
-flawTold k wholeOrBlank w before p = flawIn (parts wholeOrBlank w) before p
-
-pub told : (k : ℕ) (kind : Kind) (w : ℕ) (before p : List ℕ) → (k ≡ 0 → ⊥) → flawTold k kind w before p ≡ flawIn (parts kind w) before p
+told : (k : ℕ) (kind : Kind) (w : ℕ) (before p : List ℕ) → (k ≡ 0 → ⊥) → flawTold (rowsKept k (not (blank before)) (not (blank p))) kind w before p ≡ flawIn (parts kind w) before p
 told k amount w before p n = refl
 told k unit w before p n = unit-told k w before p n
 told k (byte first set) w before p n = refl
@@ -111,11 +87,10 @@ told k position w before p n = refl
 told k whole w before p n = refl
 told k wholeOrBlank w before p n = refl
 
--- The flaws of a record's fields f, from field number k on.
-abbrev pub flawsTold : ℕ → List Row → List (List ℕ) → List Flaw
-flawsTold k [] f = []
-flawsTold k (r ∷ rs) f = flawTold k (r .kind) (r .length) (at f (k - 1)) (at f k) ∷ flawsTold (suc k) rs f
-
-pub all-told : (k : ℕ) (t : List Row) (f : List (List ℕ)) → flawsTold (suc k) t f ≡ flawsFrom (suc k) t f
+pub all-told : (k : ℕ) (t : List Row) (f : List (List ℕ)) → flawsTold (unitKept f) (suc k) t f ≡ flawsFrom (suc k) t f
 all-told k [] f = refl
 all-told k (r ∷ rs) f = λ j. told (suc k) (r .kind) (r .length) (at f (suc k - 1)) (at f (suc k)) (λ e. absurd (omega arith)) j ∷ all-told (suc k) rs f j
+
+-- The station's table has two units, so that no more has to be known of the rows than whether theirs are kept.
+pub two-units : (kept other : ℕ → Bool) (f : List (List ℕ)) → kept 2 ≡ other 2 → kept 25 ≡ other 25 → flawsTold kept 1 stationTable f ≡ flawsTold other 1 stationTable f
+two-units kept other f first second = λ j. flawsTold (λ k. cond (eqb k 2) (first j) (second j)) 1 stationTable f

@@ -1,11 +1,9 @@
 // The second judge: the paper's two tables as numbers, walked entry by entry and row by row.
-pub mod tables;
-
-use crate::tables::ENTRIES;
-use crate::tables::ROWS;
 use basics::Outcome;
 use basics::outcomes::judged;
 use flaws::Flaw;
+use rule_tables::entry_table;
+use rule_tables::row_table;
 use station_flaws::Explained;
 use table_judging::walk;
 use walking::Found;
@@ -18,7 +16,9 @@ ghost use Rattle.station_flaws.specs.Promises.{StationExplained};
 fn found_in(rec: &[u8]) -> Found
     ensures { λ r. ⌜ (r .code ≡ stationCode (now (rec .entry))) × (r .flaw ≡ stationFlaw (now (rec .entry))) ⌝ }
 {
-    walk(&ENTRIES, &ROWS, rec)
+    let entries = entry_table();
+    let rows = row_table();
+    walk(&entries, &rows, rec)
 }
 
 // What is wrong with a record of any length, by the tables: 6, 9 with its code, or done, and the flaw that comes with the code.

@@ -1,5 +1,5 @@
 // The bounds of an entry in words.
-use second::tables::ANY;
+use rule_tables::ANY;
 
 // A number of tenths, with its point.
 fn print_tenths(n: usize) {

@@ -8,8 +8,8 @@ use crate::rules::print_rows;
 use crate::words::print_kind;
 use crate::words::print_name;
 use crate::words::print_unit;
-use second::tables::ENTRIES;
-use second::tables::ROWS;
+use rule_tables::ENTRIES;
+use rule_tables::ROWS;
 ghost use Prim.Native.Nat.{_<_, _≤_};
 ghost use lib.ListN.{length};
 

@@ -1,4 +1,5 @@
 // The two tables of a station's rules, in numbers.
+ghost use Rattle.rule_tables.specs.Told.{EntriesTell, RowsTell};
 
 // The highest of an entry that has none.
 pub const ANY: usize = 18446744073709551615;
@@ -56,3 +57,17 @@ pub const ROWS: [[usize; 7]; 13] = [
     [38, 0, 24, 1, 0, 20, 0], // 1Y filled, 9G blank
     [39, 2, 4, 1, 5, 9, 0], // 6A is FL, the name does not end in _R
 ];
+
+// The entries, which say of every field what its row of the station's table says.
+pub fn entry_table() -> [[usize; 6]; 30]
+    ensures { λ r. ⌜ EntriesTell r ⌝ }
+{
+    ENTRIES
+}
+
+// The rows, which say of every record what the rules between its fields say.
+pub fn row_table() -> [[usize; 7]; 13]
+    ensures { λ r. ⌜ RowsTell r ⌝ }
+{
+    ROWS
+}
