@@ -12,7 +12,7 @@ use borrow.Author.Tests.{eq-eqb, ne-eqb, eqb-true, leb-true}
 use Rattle.columns.specs.Sets.{isDigit}
 use Rattle.columns.specs.Texts.{skip, blank, every, each}
 use Rattle.numerals.specs.Numbers.{number, spellDigits, spellWhole}
-use Rattle.days.specs.Calendar.{daysIn}
+use Rattle.calendar.specs.Calendar.{isLeap, isShort, daysIn}
 use Rattle.days.specs.Dates.{within, dateBy, dateRule, dateIn, dateReads, dateOf, dayPasses, dateFilled, inDay, spellDate, dayGood, dayOf, dayFits, spellDay, dateGood, dateFits}
 use Rattle.days.specs.declared.dates.Date.{Date}
 use Rattle.days.specs.declared.dates.Dated.{Dated}
@@ -20,7 +20,6 @@ use Rattle.days.specs.declared.dates.Dated.the-variants as dated
 use Rattle.days.specs.declared.dates.Day.{Day}
 use Rattle.days.specs.declared.dates.Day.the-variants as day
 use Rattle.columns.proofs.TextLaws.{and-split, and-both, cond-case, each-replicate}
-use Rattle.days.proofs.CalendarLaws.{days-two-digits}
 use Rattle.numerals.proofs.NumberLaws.{digit-range}
 use Rattle.numerals.proofs.RoundTrip.{spelled-front, spelled-digits, spelled-length, spelled-says}
 use Rattle.columns.proofs.ColumnLaws.{Column}
@@ -55,6 +54,13 @@ digits-by days few d e =
       month-two = omega (arith, at-most 1 12 (d .month) (g .0));
       year-four = omega (arith, at-most 1901 9999 (d .year) (g .1));
     }
+
+-- no month has more than 31
+days-two-digits : (m y : ℕ) → daysIn m y ≤ 31
+days-two-digits m y =
+    cond-case (λ (n : ℕ). n ≤ 31) (eqb m 2)
+    (λ e. cond-case (λ (n : ℕ). n ≤ 31) (isLeap y) (λ f. omega arith) (λ f. omega arith))
+    (λ e. cond-case (λ (n : ℕ). n ≤ 31) (isShort m) (λ f. omega arith) (λ f. omega arith))
 
 -- and so by the calendar
 date-digits : (d : Date) → dateRule d ≡ true → Digits d

@@ -1,2 +1,1 @@
-pub mod CalendarLaws
 pub mod DayColumns

@@ -10,7 +10,7 @@ use Rattle.flaws.specs.Flaws.{unread}
 use Rattle.flaws.specs.declared.Flaw.{Flaw}
 use Rattle.flaws.specs.declared.Flaw.the-variants as flaw
 use Rattle.numerals.specs.Numbers.{number, admitsWhole, spellDigits}
-use Rattle.days.specs.Calendar.{daysIn}
+use Rattle.calendar.specs.Calendar.{daysIn}
 use Rattle.days.specs.declared.dates.Date.{Date}
 use Rattle.days.specs.declared.dates.Dated.{Dated}
 use Rattle.days.specs.declared.dates.Dated.the-variants as dated

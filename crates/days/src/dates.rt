@@ -1,5 +1,5 @@
 // Dates: eight digits, day, month and year, read and written.
-use crate::calendar::days_in;
+use calendar::days_in;
 use columns::sets::Set;
 use columns::texts::all_in;
 use columns::texts::is_blank;

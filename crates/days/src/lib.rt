@@ -1,3 +1,2 @@
-// Days of the calendar, and dates in their columns.
-pub mod calendar;
+// Dates in their columns, of days that the calendar has.
 pub mod dates;

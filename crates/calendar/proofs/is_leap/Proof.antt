@@ -1,7 +1,7 @@
--- `days::calendar::is_leap` meets its contract.
+-- `calendar::is_leap` meets its contract.
 use borrow.Author.Tests.{eq-eqb, ne-eqb}
-use Rattle.days.proofs.calendar.is_leap.Statement.{statement}
-use Rattle.days.proofs.calendar.is_leap.Tie as tie
+use Rattle.calendar.proofs.is_leap.Statement.{statement}
+use Rattle.calendar.proofs.is_leap.Tie as tie
 
 returns : tie.Need-returns
 returns c = rw (ne-eqb _ 0 (c .if1 .taken))

@@ -3,13 +3,10 @@ use mathlib.Core.Path.{_≡_}
 use mathlib.Core.Logic.{inl, inr}
 use mathlib.Core.Bool.{cond}
 use mathlib.Core.List.{[], _∷_}
-use Prim.Native.Nat.{ℕ, _≤_}
-use native.Mathlib.Omega.{arith}
-use lib.Dec.{eqb}
+use Prim.Native.Nat.{ℕ}
 use types.Run.{OneOf}
 use borrow.Author.Tests.{ne-eqb}
-use Rattle.days.specs.Calendar.{isLeap, daysIn, isShort}
-use Rattle.columns.proofs.TextLaws.{cond-case}
+use Rattle.calendar.specs.Calendar.{isLeap, daysIn}
 
 -- February
 pub days-february : (m y : ℕ) → m ≡ 2 → cond (isLeap y) 29 28 ≡ daysIn m y
@@ -25,10 +22,3 @@ days-short m y (inr (inr (inr e))) = rw e
 -- any other
 pub days-long : (m y : ℕ) → (OneOf (2 ∷ []) m → ⊥) → (OneOf (4 ∷ 6 ∷ 9 ∷ 11 ∷ []) m → ⊥) → 31 ≡ daysIn m y
 days-long m y n s = rw (ne-eqb m 2 n, ne-eqb m 4 (λ e. s (inl e)), ne-eqb m 6 (λ e. s (inr (inl e))), ne-eqb m 9 (λ e. s (inr (inr (inl e)))), ne-eqb m 11 (λ e. s (inr (inr (inr e)))))
-
--- no month has more than 31
-pub days-two-digits : (m y : ℕ) → daysIn m y ≤ 31
-days-two-digits m y =
-    cond-case (λ (n : ℕ). n ≤ 31) (eqb m 2)
-    (λ e. cond-case (λ (n : ℕ). n ≤ 31) (isLeap y) (λ f. omega arith) (λ f. omega arith))
-    (λ e. cond-case (λ (n : ℕ). n ≤ 31) (isShort m) (λ f. omega arith) (λ f. omega arith))

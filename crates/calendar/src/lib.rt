@@ -1,6 +1,6 @@
 // The days of the Gregorian calendar.
 ghost use mathlib.Core.Path.{_≡_};
-ghost use Rattle.days.specs.Calendar.{isLeap, daysIn};
+ghost use Rattle.calendar.specs.Calendar.{isLeap, daysIn};
 
 // A leap year: every fourth year, not every hundredth, but every four-hundredth.
 pub fn is_leap(year: u16) -> bool

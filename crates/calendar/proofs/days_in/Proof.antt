@@ -1,12 +1,12 @@
--- `days::calendar::days_in` meets its contract, month by month.
+-- `calendar::days_in` meets its contract, month by month.
 use mathlib.Core.Path.{_≡_, sym, ap, _∙_}
 use mathlib.Core.Bool.{Bool, cond}
 use Prim.Native.Nat.{ℕ}
-use Rattle.days.specs.Calendar.{isLeap, daysIn}
-use Rattle.days.proofs.CalendarLaws.{days-february, days-short, days-long}
+use Rattle.calendar.specs.Calendar.{isLeap, daysIn}
+use Rattle.calendar.proofs.CalendarLaws.{days-february, days-short, days-long}
 use borrow.Author.Needs.{needs}
-use Rattle.days.proofs.calendar.days_in.Statement.{statement}
-use Rattle.days.proofs.calendar.days_in.Tie as tie
+use Rattle.calendar.proofs.days_in.Statement.{statement}
+use Rattle.calendar.proofs.days_in.Tie as tie
 
 -- the days of February, as the year's test answers
 february : (m y : ℕ) {leap b : Bool} → leap ≡ isLeap y → leap ≡ b → m ≡ 2 → cond b 29 28 ≡ daysIn m y
