@@ -1,4 +1,4 @@
--- `carriage_filing::is_mobile` meets its contract.
+-- `carriage_checks::is_mobile` meets its contract.
 use denote.Ref.{now}
 use mathlib.Core.Path.{_≡_, sym, _∙_}
 use mathlib.Core.Bool.{true, false}
@@ -9,8 +9,8 @@ use Rattle.station.specs.Codes.{stationCode}
 use Rattle.carriage_lines.specs.Lines.{isMobile}
 use Rattle.carriage_lines.proofs.GivenLaws.{done-code}
 use borrow.Author.Needs.{needs}
-use Rattle.carriage_filing.proofs.is_mobile.Statement.{statement}
-use Rattle.carriage_filing.proofs.is_mobile.Tie as tie
+use Rattle.carriage_checks.proofs.is_mobile.Statement.{statement}
+use Rattle.carriage_checks.proofs.is_mobile.Tie as tie
 
 check-station-requires : tie.Need-check-station-requires
 check-station-requires c κs = search needs

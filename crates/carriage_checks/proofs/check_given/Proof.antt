@@ -1,4 +1,4 @@
--- `carriage_filing::check_given` meets its contract, refusal by refusal.
+-- `carriage_checks::check_given` meets its contract, refusal by refusal.
 use denote.Ref.{now}
 use mathlib.Core.Path.{_≡_, sym, ap, _∙_}
 use mathlib.Core.Bool.{true, false}
@@ -12,8 +12,8 @@ use Rattle.semicolons.specs.Fields.{noneLonger}
 use Rattle.carriage_lines.specs.Lines.{isCarriageLine, ownFields, ownPlaces}
 use Rattle.carriage_lines.proofs.GivenLaws.{marks-are, not-a-record, not-marked, long-own, wrong-number, not-mobile, all-given}
 use borrow.Author.Needs.{needs}
-use Rattle.carriage_filing.proofs.check_given.Statement.{statement}
-use Rattle.carriage_filing.proofs.check_given.Tie as tie
+use Rattle.carriage_checks.proofs.check_given.Statement.{statement}
+use Rattle.carriage_checks.proofs.check_given.Tie as tie
 
 returns : tie.Need-returns
 returns c =
