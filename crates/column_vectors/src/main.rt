@@ -159,7 +159,7 @@ fn date(s: &[u8]) {
             put(b" ");
             io::print_decimal(1, d.year as u64);
             let mut space = [0u8; 8];
-            let written = days::dates::write_day(&mut space, Day::Filled(d));
+            let written = day_writing::write_day(&mut space, Day::Filled(d));
             put_columns(written, &space);
         }
     }

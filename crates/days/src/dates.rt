@@ -1,21 +1,19 @@
-// Dates: eight digits, day, month and year, read and written.
+// Dates: eight digits, day, month and year, and what they say.
 use calendar::days_in;
 use columns::sets::Set;
 use columns::texts::all_in;
 use columns::texts::is_blank;
-use columns::texts::write_blank;
 use flaws::Flaw;
 use flaws::unread_of;
 use numerals::number_of;
-use numerals::put_digits;
 ghost use mathlib.Core.Path.{_≡_};
-ghost use mathlib.Core.Bool.{true, cond, _&&_};
+ghost use mathlib.Core.Bool.{true};
 ghost use Prim.Native.Nat.{_≤_};
 ghost use lib.ListN.{length};
 ghost use Rattle.columns.specs.Sets.{isDigit};
-ghost use Rattle.columns.specs.Texts.{every, sized};
+ghost use Rattle.columns.specs.Texts.{every};
 ghost use Rattle.numerals.specs.Numbers.{number};
-ghost use Rattle.days.specs.Dates.{within, dateRule, dateIn, dateOf, dayOf, spellDate, dayGood, dayFits, spellDay, dateGood, dateFits};
+ghost use Rattle.days.specs.Dates.{within, dateRule, dateIn, dateOf, dayOf, dayGood, dayFits};
 
 // A day of the calendar as it is filed.
 pub struct Date {
@@ -113,17 +111,6 @@ pub fn is_day(s: &[u8]) -> bool
     }
 }
 
-// A date is there, as the header asks.
-pub fn is_dated(s: &[u8]) -> bool
-    ensures { λ r. ⌜ r ≡ dateGood (now (s .entry)) ⌝ }
-{
-    match read_date(s) {
-        Dated::Bad(_) => false,
-        Dated::Blank => false,
-        Dated::Filled(_) => true,
-    }
-}
-
 // The date that is there, blank where there is none.
 pub fn day_in(s: &[u8]) -> Day
     ensures { λ r. ⌜ r ≡ dayOf (now (s .entry)) ⌝ }
@@ -135,27 +122,6 @@ pub fn day_in(s: &[u8]) -> Day
     }
 }
 
-// Writes a date in its eight columns, from the last to the first.
-fn put_date(s: &mut [u8], d: Date)
-    requires { ⌜ length (now s) ≡ 8 ⌝ }
-    ensures { λ _. ⌜ now (s .exit) ≡ spellDate d ⌝ }
-{
-    put_digits(s, 4, 4, d.year as u64);
-    put_digits(s, 2, 2, d.month as u64);
-    put_digits(s, 0, 2, d.day as u64);
-}
-
-// Writes a date, or blank, in its eight columns.
-pub fn put_day(s: &mut [u8], v: Day)
-    requires { ⌜ length (now s) ≡ 8 ⌝ }
-    ensures { λ _. ⌜ now (s .exit) ≡ spellDay v ⌝ }
-{
-    match v {
-        Day::Blank => write_blank(s),
-        Day::Filled(d) => put_date(s, d),
-    }
-}
-
 // Whether a date or its absence can stand.
 pub fn fits_day(v: Day) -> bool
     ensures { λ r. ⌜ r ≡ dayFits v ⌝ }
@@ -164,29 +130,4 @@ pub fn fits_day(v: Day) -> bool
         Day::Blank => true,
         Day::Filled(d) => is_date(d),
     }
-}
-
-// Whether a date can stand where it may not be left out.
-pub fn fits_date(v: Day) -> bool
-    ensures { λ r. ⌜ r ≡ dateFits v ⌝ }
-{
-    match v {
-        Day::Blank => false,
-        Day::Filled(d) => is_date(d),
-    }
-}
-
-// A date that keeps its rule, or blank, in eight columns; else nothing is written.
-pub fn write_day(s: &mut [u8], v: Day) -> bool
-    ensures { λ r. ⌜ r ≡ sized 8 (now (s .entry)) && dayFits v ⌝ }
-    ensures { λ _. ⌜ now (s .exit) ≡ cond (sized 8 (now (s .entry)) && dayFits v) (spellDay v) (now (s .entry)) ⌝ }
-{
-    if s.len() != 8 {
-        return false;
-    }
-    if !fits_day(v) {
-        return false;
-    }
-    put_day(s, v);
-    true
 }

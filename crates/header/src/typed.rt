@@ -4,7 +4,7 @@ use basics::rules::first_broken;
 use columns::sets::Set;
 use columns::texts::equal;
 use columns::texts::is_left_text;
-use days::dates::fits_date;
+use header_dates::fits_date;
 use numerals::fits_whole;
 use serials::fits_serial;
 ghost use mathlib.Core.Path.{_≡_};

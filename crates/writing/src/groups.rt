@@ -1,7 +1,7 @@
 // The groups of a station's fields before and behind its emission, each field written straight into its own columns.
 use columns::texts::write_byte;
 use columns::texts::write_text;
-use days::dates::put_day;
+use day_writing::put_day;
 use distances::put_height;
 use distances::put_radius;
 use frequencies::put_amount;

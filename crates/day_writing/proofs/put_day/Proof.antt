@@ -1,11 +1,11 @@
--- `days::dates::put_day` meets its contract: digits, or spaces.
+-- `day_writing::put_day` meets its contract: digits, or spaces.
 use Prim.Native.Nat.{ℕ}
 use mathlib.Core.Path.{sym, ap, _∙_}
 use lib.ListN.{replicate}
 use Rattle.days.specs.Dates.{spellDay}
 use borrow.Author.Needs.{needs}
-use Rattle.days.proofs.dates.put_day.Statement.{statement}
-use Rattle.days.proofs.dates.put_day.Tie as tie
+use Rattle.day_writing.proofs.put_day.Statement.{statement}
+use Rattle.day_writing.proofs.put_day.Tie as tie
 
 enum-told : tie.Need-enum-told
 enum-told c = search needs

@@ -1,8 +1,8 @@
--- `days::dates::is_dated` meets its contract, by the answer of the reader that it calls.
+-- `header_dates::is_dated` meets its contract, by the answer of the reader that it calls.
 use Rattle.days.specs.Dates.{dateGood}
 use borrow.Author.Needs.{needs}
-use Rattle.days.proofs.dates.is_dated.Statement.{statement}
-use Rattle.days.proofs.dates.is_dated.Tie as tie
+use Rattle.header_dates.proofs.is_dated.Statement.{statement}
+use Rattle.header_dates.proofs.is_dated.Tie as tie
 
 read-date-requires : tie.Need-read-date-requires
 read-date-requires c κs = search needs

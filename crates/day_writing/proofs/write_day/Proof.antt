@@ -1,4 +1,4 @@
--- `days::dates::write_day` meets its contract: the tests on the way are those of the promise.
+-- `day_writing::write_day` meets its contract: the tests on the way are those of the promise.
 use mathlib.Core.Path.{sym, _∙_}
 use mathlib.Core.Bool.{and-false}
 use borrow.Author.Tests.{eq-eqb, ne-eqb, not-true, not-false}
@@ -6,8 +6,8 @@ use denote.Ref.{now}
 use Rattle.columns.specs.Texts.{sized}
 use Rattle.columns.proofs.TextLaws.{kept, wrote, and-both}
 use borrow.Author.Needs.{needs}
-use Rattle.days.proofs.dates.write_day.Statement.{statement}
-use Rattle.days.proofs.dates.write_day.Tie as tie
+use Rattle.day_writing.proofs.write_day.Statement.{statement}
+use Rattle.day_writing.proofs.write_day.Tie as tie
 
 returns : tie.Need-returns
 returns c = kept _ (rw (ne-eqb _ _ (c .if1 .taken)))

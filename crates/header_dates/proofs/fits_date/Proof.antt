@@ -1,8 +1,8 @@
--- `days::dates::fits_date` meets its contract, by its two cases.
+-- `header_dates::fits_date` meets its contract, by its two cases.
 use Rattle.days.specs.Dates.{dateFits}
 use borrow.Author.Needs.{needs}
-use Rattle.days.proofs.dates.fits_date.Statement.{statement}
-use Rattle.days.proofs.dates.fits_date.Tie as tie
+use Rattle.header_dates.proofs.fits_date.Statement.{statement}
+use Rattle.header_dates.proofs.fits_date.Tie as tie
 
 enum-told : tie.Need-enum-told
 enum-told c = search needs

@@ -1,13 +1,13 @@
--- `days::dates::put_date` meets its contract: each number is written in front of the next.
+-- `day_writing::put_date` meets its contract: each number is written in front of the next.
 use denote.Ref.{now}
 use mathlib.Core.List.{[]}
 use Rattle.numerals.specs.Numbers.{spellDigits}
 use Rattle.days.specs.Dates.{spellDate}
 use Rattle.numerals.proofs.Spelling.{put-last, put-before}
 use native.Mathlib.Omega.{arith}
 use borrow.Author.Needs.{needs}
-use Rattle.days.proofs.dates.put_date.Statement.{statement}
-use Rattle.days.proofs.dates.put_date.Tie as tie
+use Rattle.day_writing.proofs.put_date.Statement.{statement}
+use Rattle.day_writing.proofs.put_date.Tie as tie
 
 cast-put-digits : tie.Need-cast-put-digits
 cast-put-digits c = search needs
