@@ -5,7 +5,7 @@ use carriage_lines::field_after;
 use carriage_lines::fields_fit;
 use columns::texts::equal;
 use judging::check_station;
-use semicolons::splitting::is_marked;
+use splitting::lines::is_marked;
 use vehicles::digits::check_number;
 ghost use mathlib.Core.Path.{_≡_};
 ghost use lib.ListN.{length};

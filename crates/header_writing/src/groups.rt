@@ -1,7 +1,6 @@
 // The first and the last group of fields of a header's record.
 use columns::texts::write_byte;
 use columns::texts::write_text;
-use day_writing::write_day;
 use header::Header;
 use numerals::put_whole;
 use serials::put_serial;

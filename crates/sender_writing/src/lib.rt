@@ -1,7 +1,7 @@
 // A header's sender and sending, columns 87 to 203, each field written straight into its own columns.
 use columns::texts::write_blank;
 use columns::texts::write_text;
-use days::dates::write_day;
+use day_writing::write_day;
 use header::Header;
 use numerals::put_whole;
 ghost use mathlib.Core.Path.{_≡_};
