@@ -2,11 +2,11 @@
 use basics::Outcome;
 use formats::Tenths;
 use frequencies::Frequency;
-use station::Channel;
-use station::Coordination;
-use station::Emission;
-use station::Site;
 use station::Station;
+use station_groups::Channel;
+use station_groups::Coordination;
+use station_groups::Emission;
+use station_groups::Site;
 use vehicle_names::name_of;
 ghost use mathlib.Core.Path.{_≡_};
 ghost use lib.ListN.{length};

@@ -9,7 +9,7 @@ ghost use mathlib.Core.Path.{_≡_};
 ghost use lib.ListN.{length};
 ghost use Rattle.basics.specs.Rules.{firstBroken};
 ghost use Rattle.station.specs.Places.{fieldsOf};
-ghost use Rattle.station.specs.Groups.{coordinationFields};
+ghost use Rattle.station_groups.specs.Groups.{coordinationFields};
 
 // Rules 24 to 30.
 pub fn coordination_code(rec: &[u8]) -> u8

@@ -3,13 +3,13 @@ use columns::texts::write_byte;
 use columns::texts::write_text;
 use distances::put_ground;
 use formats::Format;
-use station::Antenna;
-use station::Emission;
+use station_groups::Antenna;
+use station_groups::Emission;
 use tenths::put_tenths;
 ghost use mathlib.Core.Path.{_≡_};
 ghost use lib.ListN.{length, drop};
 ghost use Rattle.basics.specs.Fields.{joined};
-ghost use Rattle.station.specs.Groups.{emissionPieces, antennaPieces};
+ghost use Rattle.station_groups.specs.Groups.{emissionPieces, antennaPieces};
 
 // 9A and 9B, columns 92 to 101: where it is sent to.
 fn put_direction(g: Emission, s: &mut [u8])

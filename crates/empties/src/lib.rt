@@ -8,12 +8,12 @@ use frequencies::Frequency;
 use header::Header;
 use positions::Position;
 use serials::Serial;
-use station::Antenna;
-use station::Channel;
-use station::Coordination;
-use station::Emission;
-use station::Site;
 use station::Station;
+use station_groups::Antenna;
+use station_groups::Channel;
+use station_groups::Coordination;
+use station_groups::Emission;
+use station_groups::Site;
 ghost use Rattle.empties.specs.Promises.{HeaderEmpty, StationEmpty};
 
 // The empty header: numbers 0, date and file number blank, text all spaces.

@@ -1,9 +1,9 @@
 // What a row of the second table asks of one field.
+use between::is_repeater_name;
 use columns::texts::byte;
 use columns::texts::equal;
 use columns::texts::is_blank;
 use numerals::amount_in;
-use station::between::is_repeater_name;
 ghost use mathlib.Core.Path.{_≡_};
 ghost use Rattle.facts.specs.Facts.{factOf};
 

@@ -23,7 +23,7 @@ ghost use mathlib.Core.Path.{_≡_};
 ghost use lib.ListN.{length};
 ghost use Rattle.basics.specs.Rules.{firstBroken};
 ghost use Rattle.station.specs.Places.{fieldsOf};
-ghost use Rattle.station.specs.Groups.{channelFields, siteFields, emissionFields, antennaFields};
+ghost use Rattle.station_groups.specs.Groups.{channelFields, siteFields, emissionFields, antennaFields};
 ghost use Rattle.station.specs.Rules.{fieldRules};
 
 // Rules 1 to 7.

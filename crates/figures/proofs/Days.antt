@@ -15,7 +15,8 @@ use Rattle.fields.specs.Rows.{_&_}
 use Rattle.basics.specs.Rules.{firstBroken}
 use Rattle.station.specs.Places.{fieldsOf}
 use Rattle.station.specs.Rules.{fieldRules, typedRules}
-use Rattle.station.specs.Between.{roundAntenna, betweenRules}
+use Rattle.station_groups.specs.Asked.{roundAntenna}
+use Rattle.station.specs.Between.{betweenRules}
 use Rattle.station.specs.Values.{stationOf}
 use Rattle.station.specs.Spelling.{stationPieces, spellStation}
 use Rattle.station.specs.Codes.{valueOf, stationCode, typedCode}

@@ -1,3 +1,2 @@
-pub mod EndLaws
 pub mod RoundTrip
 pub mod Unique

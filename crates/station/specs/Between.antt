@@ -1,7 +1,7 @@
 -- Document 01, "Then across fields": the rules between fields, codes 31 to 39, as a second table. They are stated once, on typed values, and count only
 -- where rules 1 to 30 hold. (Rules 2 and 25, which ask a unit of its amount, stand in the first table as its kind `unit`.)
 use Prim.Native.Nat.{ℕ}
-use mathlib.Core.Bool.{Bool, not, _&&_}
+use mathlib.Core.Bool.{Bool, not}
 use mathlib.Core.List.{List, [], _∷_}
 use lib.Dec.{eqb}
 use Rattle.columns.specs.Sets.{is}
@@ -10,6 +10,7 @@ use Rattle.frequencies.specs.Frequencies.{hasFrequency}
 use Rattle.formats.specs.Tenths.{hasTenths}
 use Rattle.distances.specs.Distances.{hasHeight}
 use Rattle.fields.specs.Table.{meantAt}
+use Rattle.station_groups.specs.Asked.{roundAntenna, never}
 use Rattle.station.specs.Members.{valuesOf, valueAt}
 use Rattle.station.specs.declared.Station.{Station}
 
@@ -28,10 +29,6 @@ isnt fact s = not (fact s)
 abbrev pub mobile : Fact
 mobile = on 4 (λ p. is "M" (head p))
 
--- The antenna type of no direction.
-unfoldable pub roundAntenna : List ℕ → Bool
-roundAntenna p = same (bytes "000ND00") p
-
 -- Each row has two facts that never stand together.
 abbrev pub betweenTable : List (Fact × Fact)
 betweenTable =
@@ -45,10 +42,6 @@ betweenTable =
     (on 24 hasFrequency, isnt (on 20 hasTenths)) ∷  -- 38 1Y filled, 9G blank
     (on 4 (same (bytes "FL")), isnt (on 9 (λ p. endsIn "_R" (trimmed p)))) ∷  -- 39 6A is FL and the name, trailing spaces off, does not end in _R
     []
-
--- The two do not stand together.
-abbrev pub never : Bool → Bool → Bool
-never x y = not (x && y)
 
 -- The rules of such a table.
 abbrev pub neverOf : List (Fact × Fact) → Station → List Bool

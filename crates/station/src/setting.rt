@@ -1,7 +1,4 @@
 // Power, 9A, 9B, 4Z and 9Y set on a typed station: the changed station is judged, and given back where it breaks no rule.
-use crate::Antenna;
-use crate::Emission;
-use crate::Site;
 use crate::Station;
 use crate::typed::typed_code;
 use basics::Outcome;
@@ -10,6 +7,9 @@ use basics::outcomes::judged;
 use distances::Height;
 use distances::Metres;
 use formats::Tenths;
+use station_groups::Antenna;
+use station_groups::Emission;
+use station_groups::Site;
 ghost use Rattle.station.specs.Promises.{StationSet, PowerSet, AzimuthSet, ElevationSet, HeightSet, GroundSet};
 
 // How setting ended, and the station: the changed one, or on a refusal the one that was given.

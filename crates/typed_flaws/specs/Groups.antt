@@ -2,12 +2,12 @@
 use mathlib.Core.List.{List}
 use Rattle.flaw_parts.specs.Parts.{typedFlaws}
 use Rattle.flaws.specs.declared.Flaw.{Flaw}
-use Rattle.station.specs.Members.{rows, channelValues, siteValues, emissionValues, antennaValues, coordinationValues}
-use Rattle.station.specs.declared.Channel.{Channel}
-use Rattle.station.specs.declared.Site.{Site}
-use Rattle.station.specs.declared.Emission.{Emission}
-use Rattle.station.specs.declared.Antenna.{Antenna}
-use Rattle.station.specs.declared.Coordination.{Coordination}
+use Rattle.station_groups.specs.Members.{rows, channelValues, siteValues, emissionValues, antennaValues, coordinationValues}
+use Rattle.station_groups.specs.declared.Channel.{Channel}
+use Rattle.station_groups.specs.declared.Site.{Site}
+use Rattle.station_groups.specs.declared.Emission.{Emission}
+use Rattle.station_groups.specs.declared.Antenna.{Antenna}
+use Rattle.station_groups.specs.declared.Coordination.{Coordination}
 
 -- Channel, rows 1 to 7.
 unfoldable pub channelFlaws : Channel → List Flaw

@@ -7,13 +7,13 @@ use distances::put_radius;
 use frequencies::put_amount;
 use frequencies::put_unit;
 use positions::put_position;
-use station::Channel;
-use station::Coordination;
-use station::Site;
+use station_groups::Channel;
+use station_groups::Coordination;
+use station_groups::Site;
 ghost use mathlib.Core.Path.{_≡_};
 ghost use lib.ListN.{length, drop};
 ghost use Rattle.basics.specs.Fields.{joined};
-ghost use Rattle.station.specs.Groups.{channelPieces, sitePieces, coordinationPieces};
+ghost use Rattle.station_groups.specs.Groups.{channelPieces, sitePieces, coordinationPieces};
 
 // 6A, 6B, 6Z and 10Z, columns 14 to 20: what it is used for.
 fn put_use(g: Channel, s: &mut [u8])

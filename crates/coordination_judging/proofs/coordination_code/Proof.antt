@@ -6,7 +6,7 @@ use Rattle.columns.specs.Texts.{byteGood}
 use Rattle.fields.specs.Table.{fitsAt}
 use Rattle.basics.specs.Rules.{firstBroken}
 use Rattle.station.specs.Places.{fieldsOf}
-use Rattle.station.specs.Groups.{coordinationFields}
+use Rattle.station_groups.specs.Groups.{coordinationFields}
 use Rattle.coordination_judging.proofs.PartLaws.{byte-field, passing, stopping, passed-all}
 use native.Mathlib.Omega.{arith}
 use borrow.Author.Needs.{needs}

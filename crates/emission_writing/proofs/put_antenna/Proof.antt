@@ -4,7 +4,7 @@ use mathlib.Core.Bool.{false}
 use lib.ListN.{length, drop}
 use Rattle.formats.specs.Tenths.{spellTenths}
 use Rattle.distances.specs.Distances.{spellGround}
-use Rattle.station.specs.Groups.{antennaPieces}
+use Rattle.station_groups.specs.Groups.{antennaPieces}
 use Rattle.basics.proofs.WriteLaws.{nothing-yet, then-one, then-text, then-some, all-written}
 use borrow.Author.Needs.{needs}
 use native.Mathlib.Omega.{arith}

@@ -3,7 +3,7 @@ use mathlib.Core.Path.{_≡_}
 use mathlib.Core.Bool.{true, false}
 use lib.ListN.{length}
 use Rattle.formats.specs.Tenths.{spellTenths}
-use Rattle.station.specs.Groups.{emissionPieces}
+use Rattle.station_groups.specs.Groups.{emissionPieces}
 use Rattle.basics.proofs.WriteLaws.{nothing-yet, then-one, all-written}
 use borrow.Author.Needs.{needs}
 use native.Mathlib.Omega.{arith}

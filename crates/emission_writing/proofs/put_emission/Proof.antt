@@ -4,7 +4,7 @@ use mathlib.Core.Bool.{true}
 use mathlib.Core.List.{[], _∷_}
 use lib.ListN.{length, drop}
 use Rattle.formats.specs.Tenths.{spellTenths}
-use Rattle.station.specs.Groups.{emissionPieces}
+use Rattle.station_groups.specs.Groups.{emissionPieces}
 use Rattle.basics.proofs.WriteLaws.{nothing-yet, then-one, then-text, then-some, all-written}
 use borrow.Author.Needs.{needs}
 use native.Mathlib.Omega.{arith}

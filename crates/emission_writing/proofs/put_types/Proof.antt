@@ -1,7 +1,7 @@
 -- `emission_writing::put_types` meets its contract: each field is written after the one before it.
 use mathlib.Core.Path.{_≡_}
 use lib.ListN.{length}
-use Rattle.station.specs.Groups.{antennaPieces}
+use Rattle.station_groups.specs.Groups.{antennaPieces}
 use Rattle.basics.proofs.WriteLaws.{nothing-yet, then-text, all-written}
 use borrow.Author.Needs.{needs}
 use native.Mathlib.Omega.{arith}

@@ -5,7 +5,7 @@ use denote.Ref.{now}
 use Rattle.basics.specs.Rules.{firstBroken}
 use Rattle.basics.proofs.RuleLaws.{to-next, from-first}
 use Rattle.station.specs.Places.{fieldsOf}
-use Rattle.station.specs.Groups.{channelFields, siteFields, emissionFields, antennaFields, coordinationFields}
+use Rattle.station_groups.specs.Groups.{channelFields, siteFields, emissionFields, antennaFields, coordinationFields}
 use Rattle.station.specs.Rules.{fieldRules}
 use borrow.Author.Needs.{needs}
 use Rattle.field_judging.proofs.field_code.Statement.{statement}

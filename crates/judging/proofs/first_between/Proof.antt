@@ -9,7 +9,8 @@ use Rattle.formats.specs.Tenths.{anyNumber}
 use Rattle.fields.specs.Table.{meantAt}
 use Rattle.basics.proofs.RuleLaws.{rule}
 use Rattle.station.specs.Places.{fieldsOf}
-use Rattle.station.specs.Groups.{channelFields, siteFields, emissionFields, antennaFields, coordinationFields, firstBetween}
+use Rattle.station_groups.specs.Groups.{channelFields, siteFields, emissionFields, antennaFields, coordinationFields}
+use Rattle.station.specs.Groups.{firstBetween}
 use Rattle.station.specs.Rules.{fieldRules}
 use Rattle.station.specs.Values.{stationOf}
 use Rattle.station.specs.Codes.{valueOf}

@@ -5,7 +5,8 @@ use denote.Ref.{now}
 use Rattle.basics.specs.Rules.{All, firstBroken}
 use Rattle.basics.proofs.RuleLaws.{all-hold, to-next, from-first}
 use Rattle.station.specs.Places.{fieldsOf}
-use Rattle.station.specs.Groups.{channelFields, siteFields, emissionFields, antennaFields, coordinationFields, firstBetween, lastBetween}
+use Rattle.station_groups.specs.Groups.{channelFields, siteFields, emissionFields, antennaFields, coordinationFields}
+use Rattle.station.specs.Groups.{firstBetween, lastBetween}
 use Rattle.station.specs.Rules.{fieldRules}
 use Rattle.station.specs.Between.{betweenRules}
 use Rattle.station.specs.Codes.{valueOf, stationCode}

@@ -10,7 +10,8 @@ use Rattle.basics.proofs.RuleLaws.{rule}
 use Rattle.fields.specs.Table.{meantAt}
 use Rattle.station.specs.Places.{fieldsOf}
 use Rattle.station.specs.Rules.{fieldRules}
-use Rattle.station.specs.Between.{roundAntenna, betweenRules}
+use Rattle.station_groups.specs.Asked.{roundAntenna}
+use Rattle.station.specs.Between.{betweenRules}
 use Rattle.station.specs.Values.{stationOf}
 use Rattle.station.specs.Codes.{valueOf}
 use Rattle.judging.proofs.FilledLaws.{frequency-given, tenths-given, height-given}

@@ -1,7 +1,7 @@
 -- `writing::put_station` meets its contract: each group is written after the one before it.
 use mathlib.Core.Path.{_≡_}
 use lib.ListN.{length}
-use Rattle.station.specs.Groups.{channelPieces, sitePieces, emissionPieces, antennaPieces, coordinationPieces}
+use Rattle.station_groups.specs.Groups.{channelPieces, sitePieces, emissionPieces, antennaPieces, coordinationPieces}
 use Rattle.station.specs.Spelling.{stationPieces, spellStation}
 use Rattle.basics.proofs.WriteLaws.{nothing-yet, then-some, all-written}
 use borrow.Author.Needs.{needs}

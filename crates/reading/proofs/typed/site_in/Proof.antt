@@ -5,7 +5,7 @@ use lib.ListN.{length}
 use mathlib.Core.Path.{_≡_, _∙_}
 use denote.Ref.{now}
 use Rattle.basics.proofs.RuleLaws.{rule}
-use Rattle.station.specs.Groups.{channelFields, siteFields, emissionFields, antennaFields, coordinationFields}
+use Rattle.station_groups.specs.Groups.{channelFields, siteFields, emissionFields, antennaFields, coordinationFields}
 use Rattle.station.specs.Rules.{fieldRules}
 use Rattle.station.specs.Places.{fieldsOf}
 use Rattle.station.specs.Values.{stationOf}

@@ -3,7 +3,8 @@ use mathlib.Core.Path.{_≡_, sym, _∙_}
 use mathlib.Core.List.{_++_}
 use Rattle.basics.specs.Rules.{firstBroken}
 use Rattle.basics.proofs.RuleLaws.{to-next, from-first}
-use Rattle.station.specs.Groups.{channelRules, siteRules, emissionRules, antennaRules, coordinationRules, firstBetween, lastBetween}
+use Rattle.station_groups.specs.Groups.{channelRules, siteRules, emissionRules, antennaRules, coordinationRules}
+use Rattle.station.specs.Groups.{firstBetween, lastBetween}
 use Rattle.station.specs.Rules.{typedRules}
 use Rattle.station.specs.Between.{betweenRules}
 use Rattle.station.specs.Codes.{typedCode}

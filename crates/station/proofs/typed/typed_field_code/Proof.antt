@@ -3,7 +3,7 @@ use mathlib.Core.Path.{_≡_, sym, _∙_}
 use mathlib.Core.List.{_++_}
 use Rattle.basics.specs.Rules.{firstBroken}
 use Rattle.basics.proofs.RuleLaws.{to-next, from-first}
-use Rattle.station.specs.Groups.{channelRules, siteRules, emissionRules, antennaRules, coordinationRules}
+use Rattle.station_groups.specs.Groups.{channelRules, siteRules, emissionRules, antennaRules, coordinationRules}
 use Rattle.station.specs.Rules.{typedRules}
 use borrow.Author.Needs.{needs}
 use Rattle.station.proofs.typed.typed_field_code.Statement.{statement}

@@ -5,32 +5,17 @@ use borrow.Author.Needs.{needs}
 use Rattle.station.proofs.typed.typed_first_between.Statement.{statement}
 use Rattle.station.proofs.typed.typed_first_between.Tie as tie
 
-has-frequency-requires : tie.Need-has-frequency-requires
-has-frequency-requires c κs = search needs
+is-heard-or-sent-requires : tie.Need-is-heard-or-sent-requires
+is-heard-or-sent-requires c κs = search needs
 
-is-mobile-requires : tie.Need-is-mobile-requires
-is-mobile-requires c κs = search needs
+is-powered-to-send-requires : tie.Need-is-powered-to-send-requires
+is-powered-to-send-requires c κs = search needs
 
-has-frequency-requires-2 : tie.Need-has-frequency-requires-2
-has-frequency-requires-2 c κs = search needs
+is-fixed-at-a-point-requires : tie.Need-is-fixed-at-a-point-requires
+is-fixed-at-a-point-requires c κs = search needs
 
-never-both-requires : tie.Need-never-both-requires
-never-both-requires c κs = search needs
-
-has-tenths-requires : tie.Need-has-tenths-requires
-has-tenths-requires c κs = search needs
-
-never-both-requires-2 : tie.Need-never-both-requires-2
-never-both-requires-2 c κs = search needs
-
-never-both-requires-3 : tie.Need-never-both-requires-3
-never-both-requires-3 c κs = search needs
-
-has-tenths-requires-2 : tie.Need-has-tenths-requires-2
-has-tenths-requires-2 c κs = search needs
-
-never-both-requires-4 : tie.Need-never-both-requires-4
-never-both-requires-4 c κs = search needs
+is-mobile-undirected-requires : tie.Need-is-mobile-undirected-requires
+is-mobile-undirected-requires c κs = search needs
 
 slice-aggregate-first-broken : tie.Need-slice-aggregate-first-broken
 slice-aggregate-first-broken c = search needs
@@ -43,30 +28,20 @@ unfolding firstBetween
 returns c =
     c .first-broken .ensures
     ∙ rw (
-      c .before .before .before .before .before .before .before .before .never-both .ensures,
-      c .before .before .before .before .before .before .never-both2 .ensures,
-      c .before .before .before .before .never-both3 .ensures,
-      c .before .before .never-both4 .ensures,
-      c .before .before .before .before .before .before .before .before .before .before .before .has-frequency .ensures,
-      c .before .before .before .before .before .before .before .before .before .has-frequency2 .ensures,
-      c .before .before .before .before .before .before .before .before .before .before .is-mobile .ensures,
-      c .before .before .before .before .before .before .before .has-tenths .ensures,
-      c .before .before .before .has-tenths2 .ensures,
+      c .before .before .before .before .before .is-heard-or-sent .ensures,
+      c .before .before .before .before .is-powered-to-send .ensures,
+      c .before .before .before .is-fixed-at-a-point .ensures,
+      c .before .before .is-mobile-undirected .ensures,
     )
 
 pub typed-first-between-spec : {M : Type 1} → statement M
 typed-first-between-spec =
     tie.close
     (tie.spec
-    has-frequency-requires
-    is-mobile-requires
-    has-frequency-requires-2
-    never-both-requires
-    has-tenths-requires
-    never-both-requires-2
-    never-both-requires-3
-    has-tenths-requires-2
-    never-both-requires-4
+    is-heard-or-sent-requires
+    is-powered-to-send-requires
+    is-fixed-at-a-point-requires
+    is-mobile-undirected-requires
     slice-aggregate-first-broken
     first-broken-requires
     returns)

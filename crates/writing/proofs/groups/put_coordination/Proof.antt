@@ -2,7 +2,7 @@
 use mathlib.Core.Path.{_≡_}
 use lib.ListN.{length, drop}
 use Rattle.frequencies.specs.Frequencies.{spellAmount, spellUnit}
-use Rattle.station.specs.Groups.{coordinationPieces}
+use Rattle.station_groups.specs.Groups.{coordinationPieces}
 use Rattle.basics.proofs.WriteLaws.{nothing-yet, then-one, then-text, then-some, all-written}
 use borrow.Author.Needs.{needs}
 use native.Mathlib.Omega.{arith}

@@ -3,7 +3,7 @@ use mathlib.Core.Path.{_≡_}
 use lib.ListN.{length}
 use Rattle.distances.specs.Distances.{spellRadius, spellHeight}
 use Rattle.positions.specs.Positions.{spellPosition}
-use Rattle.station.specs.Groups.{sitePieces}
+use Rattle.station_groups.specs.Groups.{sitePieces}
 use Rattle.basics.proofs.WriteLaws.{nothing-yet, then-one, all-written}
 use borrow.Author.Needs.{needs}
 use native.Mathlib.Omega.{arith}

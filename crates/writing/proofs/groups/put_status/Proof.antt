@@ -3,7 +3,7 @@ use mathlib.Core.Path.{_≡_, refl}
 use mathlib.Core.List.{[], _∷_}
 use lib.ListN.{length}
 use Rattle.days.specs.Dates.{spellDay}
-use Rattle.station.specs.Groups.{coordinationPieces}
+use Rattle.station_groups.specs.Groups.{coordinationPieces}
 use Rattle.basics.proofs.WriteLaws.{nothing-yet, then-one, then-text, all-written}
 use borrow.Author.Needs.{needs}
 use native.Mathlib.Omega.{arith}

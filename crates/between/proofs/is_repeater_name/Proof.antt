@@ -1,13 +1,13 @@
--- `station::between::is_repeater_name` meets its contract.
+-- `between::is_repeater_name` meets its contract.
 use mathlib.Core.Path.{sym, _∙_}
 use lib.ListN.{take}
 use lib.Seq.{length-take-le}
 use denote.Ref.{now}
-use Rattle.station.proofs.EndLaws.{ends-short, ends-there}
+use Rattle.between.proofs.EndLaws.{ends-short, ends-there}
 use native.Mathlib.Omega.{arith}
 use borrow.Author.Needs.{needs}
-use Rattle.station.proofs.between.is_repeater_name.Statement.{statement}
-use Rattle.station.proofs.between.is_repeater_name.Tie as tie
+use Rattle.between.proofs.is_repeater_name.Statement.{statement}
+use Rattle.between.proofs.is_repeater_name.Tie as tie
 
 trimmed-length-requires : tie.Need-trimmed-length-requires
 trimmed-length-requires c κs = search needs

@@ -1,8 +1,8 @@
--- `station::between::is_round` meets its contract.
-use Rattle.station.specs.Between.{roundAntenna}
+-- `between::is_round` meets its contract.
+use Rattle.station_groups.specs.Asked.{roundAntenna}
 use borrow.Author.Needs.{needs}
-use Rattle.station.proofs.between.is_round.Statement.{statement}
-use Rattle.station.proofs.between.is_round.Tie as tie
+use Rattle.between.proofs.is_round.Statement.{statement}
+use Rattle.between.proofs.is_round.Tie as tie
 
 slice-aggregate-equal : tie.Need-slice-aggregate-equal
 slice-aggregate-equal c = search needs

@@ -1,9 +1,9 @@
--- `station::typed::typed_coordination_code` meets its contract: each test of the code is a rule of the group.
+-- `typed_groups::typed_coordination_code` meets its contract: each test of the code is a rule of the group.
 use mathlib.Core.Path.{_∙_}
-use Rattle.station.specs.Groups.{coordinationRules}
+use Rattle.station_groups.specs.Groups.{coordinationRules}
 use borrow.Author.Needs.{needs}
-use Rattle.station.proofs.typed.typed_coordination_code.Statement.{statement}
-use Rattle.station.proofs.typed.typed_coordination_code.Tie as tie
+use Rattle.typed_groups.proofs.typed_coordination_code.Statement.{statement}
+use Rattle.typed_groups.proofs.typed_coordination_code.Tie as tie
 
 fits-frequency-requires : tie.Need-fits-frequency-requires
 fits-frequency-requires c κs = search needs

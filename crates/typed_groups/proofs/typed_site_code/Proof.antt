@@ -1,9 +1,9 @@
--- `station::typed::typed_site_code` meets its contract: each test of the code is a rule of the group.
+-- `typed_groups::typed_site_code` meets its contract: each test of the code is a rule of the group.
 use mathlib.Core.Path.{_∙_}
-use Rattle.station.specs.Groups.{siteRules}
+use Rattle.station_groups.specs.Groups.{siteRules}
 use borrow.Author.Needs.{needs}
-use Rattle.station.proofs.typed.typed_site_code.Statement.{statement}
-use Rattle.station.proofs.typed.typed_site_code.Tie as tie
+use Rattle.typed_groups.proofs.typed_site_code.Statement.{statement}
+use Rattle.typed_groups.proofs.typed_site_code.Tie as tie
 
 fits-day-requires : tie.Need-fits-day-requires
 fits-day-requires c κs = search needs

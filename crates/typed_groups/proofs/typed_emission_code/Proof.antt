@@ -1,9 +1,9 @@
--- `station::typed::typed_emission_code` meets its contract: each test of the code is a rule of the group.
+-- `typed_groups::typed_emission_code` meets its contract: each test of the code is a rule of the group.
 use mathlib.Core.Path.{_∙_}
-use Rattle.station.specs.Groups.{emissionRules}
+use Rattle.station_groups.specs.Groups.{emissionRules}
 use borrow.Author.Needs.{needs}
-use Rattle.station.proofs.typed.typed_emission_code.Statement.{statement}
-use Rattle.station.proofs.typed.typed_emission_code.Tie as tie
+use Rattle.typed_groups.proofs.typed_emission_code.Statement.{statement}
+use Rattle.typed_groups.proofs.typed_emission_code.Tie as tie
 
 slice-aggregate-is-emission : tie.Need-slice-aggregate-is-emission
 slice-aggregate-is-emission c = search needs

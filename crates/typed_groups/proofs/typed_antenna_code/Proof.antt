@@ -1,9 +1,9 @@
--- `station::typed::typed_antenna_code` meets its contract: each test of the code is a rule of the group.
+-- `typed_groups::typed_antenna_code` meets its contract: each test of the code is a rule of the group.
 use mathlib.Core.Path.{_∙_}
-use Rattle.station.specs.Groups.{antennaRules}
+use Rattle.station_groups.specs.Groups.{antennaRules}
 use borrow.Author.Needs.{needs}
-use Rattle.station.proofs.typed.typed_antenna_code.Statement.{statement}
-use Rattle.station.proofs.typed.typed_antenna_code.Tie as tie
+use Rattle.typed_groups.proofs.typed_antenna_code.Statement.{statement}
+use Rattle.typed_groups.proofs.typed_antenna_code.Tie as tie
 
 slice-aggregate-is-polarisation : tie.Need-slice-aggregate-is-polarisation
 slice-aggregate-is-polarisation c = search needs
