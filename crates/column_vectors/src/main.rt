@@ -167,12 +167,12 @@ fn date(s: &[u8]) {
 
 // The fifteen columns of a position.
 fn write_position(p: Position) {
-    if !positions::fits_position(p) {
+    if !position_writing::fits_position(p) {
         put(b" refused\n");
         return;
     }
     let mut space = [0u8; 15];
-    positions::put_position(&mut space, p);
+    position_writing::put_position(&mut space, p);
     put_columns(true, &space);
 }
 

@@ -7,7 +7,7 @@ use emissions::is_emission;
 use formats::Format;
 use frequencies::is_amount;
 use frequencies::is_unit;
-use positions::is_position;
+use position_judging::is_position;
 use symbols::is_antenna;
 use symbols::is_basis;
 use symbols::is_carrier;

@@ -1,4 +1,3 @@
 pub mod ArcLaws
 pub mod PositionColumn
 pub mod Letters
-pub mod PlainLaws

@@ -7,7 +7,7 @@ use flaws::Flaw;
 use formats::Format;
 use frequencies::fits_frequency;
 use number_flaws::range_flaw;
-use positions::fits_position;
+use position_writing::fits_position;
 use station::Station;
 use station::typed::typed_code;
 use station_groups::Antenna;

@@ -7,7 +7,7 @@ use distances::fits_radius;
 use emissions::is_emission;
 use formats::Format;
 use frequencies::fits_frequency;
-use positions::fits_position;
+use position_writing::fits_position;
 use remarks::is_remarks;
 use station_groups::Antenna;
 use station_groups::Channel;

@@ -6,7 +6,7 @@ use distances::put_height;
 use distances::put_radius;
 use frequencies::put_amount;
 use frequencies::put_unit;
-use positions::put_position;
+use position_writing::put_position;
 use station_groups::Channel;
 use station_groups::Coordination;
 use station_groups::Site;
