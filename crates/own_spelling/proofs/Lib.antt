@@ -1,4 +1,2 @@
-mod OwnLaws
-mod OwnPlaces
 mod StayLaws
 mod InPlaceLaws

@@ -24,7 +24,7 @@ use Rattle.numerals.specs.declared.Signed.{Signed}
 use Rattle.numerals.specs.declared.Signed.the-variants as signed
 use Rattle.columns.proofs.TextLaws.{and-split, each-replicate, every-take, every-drop, blank-spaces}
 use Rattle.columns.proofs.ColumnLaws.{either}
-use Rattle.own_spelling.proofs.OwnLaws.{digits-own}
+use Rattle.own_numbers.proofs.OwnLaws.{digits-own}
 
 -- One byte that keeps its rule is all there is.
 pub byte-stays : (test : ℕ → Bool) (p : List ℕ) → byteGood test p ≡ true → head p ∷ [] ≡ p

@@ -1,23 +1,11 @@
--- What the code alone wants that respells a record where it stands: tests that a number's columns pass only where they hold its one spelling, and the
--- pieces of two runs of columns. Nothing is meant here that the table of fields does not say.
-use Prim.Native.Nat.{ℕ, _+_}
-use mathlib.Core.Bool.{Bool, true, false, not, _&&_, _||_}
+-- What the code alone wants that respells a record where it stands: the pieces of two runs of columns. Nothing is meant here that the table of fields does not say.
+use Prim.Native.Nat.{ℕ}
+use mathlib.Core.Bool.{Bool, true, false}
 use mathlib.Core.List.{List, [], _∷_}
-use lib.ListN.{getD, take, drop}
-use lib.Dec.{eqb}
-use Rattle.columns.specs.Sets.{is, isDigit}
-use Rattle.columns.specs.Texts.{head, tail, every, same}
+use lib.ListN.{take, drop}
 use Rattle.formats.specs.Tenths.{tenthsOf, spellTenths}
 use Rattle.distances.specs.Distances.{radiusOf, spellRadius, groundOf, spellGround, heightOf, spellHeight}
 use Rattle.positions.specs.Positions.{positionOf, spellPosition}
-
--- The mark stands behind a digits, and behind it digits alone.
-unfoldable pub digitsAround : ℕ → ℕ → List ℕ → Bool
-digitsAround mark a t = eqb (getD t a 0) mark && (every isDigit (take a t) && every isDigit (drop (a + 1) t))
-
--- Digits are so around a point behind a space, or behind minus where they are not the given spelling of zero.
-unfoldable pub signedAround : ℕ → List ℕ → List ℕ → Bool
-signedAround a none s = digitsAround 46 a (tail s) && (is " " (head s) || (is "-" (head s) && not (same none (tail s))))
 
 -- A decimal in its one spelling.
 abbrev pub decimalAnew : ℕ → Bool → List ℕ → List ℕ

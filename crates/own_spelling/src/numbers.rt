@@ -1,73 +1,26 @@
 // Numbers in their own columns, written in the one spelling where they stand in another.
 use columns::sets::Set;
 use columns::texts::all_in;
-use columns::texts::equal;
 use distances::put_height;
 use distances::read_height;
 use formats::Format;
 use numerals::amount_in;
 use numerals::put_whole;
+use own_numbers::is_own_decimal;
+use own_numbers::is_own_position;
 use position_writing::put_position;
 use positions::position_in;
 use tenths::put_tenths;
 use tenths::read_tenths;
 ghost use mathlib.Core.Path.{_≡_};
 ghost use mathlib.Core.Bool.{true};
-ghost use Prim.Native.Nat.{_+_, _≤_, _<_};
+ghost use Prim.Native.Nat.{_≤_};
 ghost use lib.ListN.{length};
 ghost use Rattle.numerals.specs.Numbers.{wholeOf, amount, spellWhole};
 ghost use Rattle.formats.specs.Formats.{digitsBefore, digitsAfter, maySign, formatWidth};
 ghost use Rattle.formats.specs.Tenths.{tenthsOf, spellTenths};
 ghost use Rattle.distances.specs.Distances.{heightOf, spellHeight};
 ghost use Rattle.positions.specs.Positions.{positionGood, positionOf, spellPosition};
-ghost use Rattle.own_spelling.specs.OwnSpelling.{digitsAround, signedAround};
-
-// Whether a mark stands behind a digits, and behind it digits alone.
-fn is_around(mark: u8, a: usize, t: &[u8]) -> bool
-    requires { ⌜ a < length (now t) ⌝ }
-    ensures { λ r. ⌜ r ≡ digitsAround mark a (now (t .entry)) ⌝ }
-{
-    if t[a] != mark {
-        return false;
-    }
-    if !all_in(Set::Digit, &t[..a]) {
-        return false;
-    }
-    all_in(Set::Digit, &t[a + 1..])
-}
-
-// Whether digits are around the point behind a space, or behind minus where they do not say the given spelling of zero.
-fn is_signed_around(a: usize, none: &[u8], s: &[u8]) -> bool
-    requires { ⌜ a + 1 < length (now s) ⌝ }
-    ensures { λ r. ⌜ r ≡ signedAround a (now (none .entry)) (now (s .entry)) ⌝ }
-{
-    let t = &s[1..];
-    if !is_around(b'.', a, t) {
-        return false;
-    }
-    let sign = s[0];
-    if sign == b' ' {
-        return true;
-    }
-    if sign != b'-' {
-        return false;
-    }
-    !equal(none, t)
-}
-
-// Whether a decimal is told to stand in its one spelling without reading it.
-fn is_own_decimal(format: Format, s: &[u8]) -> bool
-    requires { ⌜ length (now s) ≡ formatWidth format ⌝ }
-    ensures { λ r. ⌜ (r ≡ true → spellTenths (digitsBefore format) (digitsAfter format) (maySign format) (tenthsOf (digitsBefore format) (digitsAfter format) (maySign format) (now (s .entry))) ≡ now (s .entry)) ⌝ }
-{
-    match format {
-        Format::Frequency => is_around(b'.', 5, s),
-        Format::Power => is_signed_around(3, b"000.0", s),
-        Format::Azimuth => is_around(b'.', 3, s),
-        Format::Elevation => is_signed_around(2, b"00.0", s),
-        Format::Gain => is_around(b'.', 2, s),
-    }
-}
 
 // Writes what a decimal's columns say, or blank, in its one spelling.
 pub(crate) fn respell_decimal(format: Format, s: &mut [u8])
@@ -103,17 +56,6 @@ pub(crate) fn respell_height(s: &mut [u8])
     }
     let v = read_height(s);
     put_height(s, v);
-}
-
-// Whether 4C, which keeps its rule, is told to stand in its one spelling without reading it: east and north, with digits in all its places.
-fn is_own_position(s: &[u8]) -> bool
-    requires { ⌜ positionGood (now s) ≡ true ⌝ }
-    ensures { λ r. ⌜ (r ≡ true → spellPosition (positionOf (now (s .entry))) ≡ now (s .entry)) ⌝ }
-{
-    if !is_around(b'E', 3, &s[0..8]) {
-        return false;
-    }
-    is_around(b'N', 2, &s[8..15])
 }
 
 // Writes 4C, which keeps its rule, in its one spelling.

@@ -1,7 +1,7 @@
 -- `own_spelling::numbers::respell_position` meets its contract: it stands, or is read and written.
 use mathlib.Core.Path.{sym, ap, _∙_}
 use Rattle.positions.specs.Positions.{spellPosition}
-use Rattle.own_spelling.proofs.OwnPlaces.{position-wide}
+use Rattle.own_numbers.proofs.OwnPlaces.{position-wide}
 use borrow.Author.Needs.{needs}
 use Rattle.own_spelling.proofs.numbers.respell_position.Statement.{statement}
 use Rattle.own_spelling.proofs.numbers.respell_position.Tie as tie

@@ -1,7 +1,7 @@
 -- `own_spelling::numbers::respell_whole` meets its contract: it stands, or is read and written.
 use mathlib.Core.Path.{sym, ap, _∙_}
 use Rattle.numerals.specs.Numbers.{spellWhole}
-use Rattle.own_spelling.proofs.OwnLaws.{whole-own}
+use Rattle.own_numbers.proofs.OwnLaws.{whole-own}
 use borrow.Author.Needs.{needs}
 use Rattle.own_spelling.proofs.numbers.respell_whole.Statement.{statement}
 use Rattle.own_spelling.proofs.numbers.respell_whole.Tie as tie

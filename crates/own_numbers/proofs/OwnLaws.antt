@@ -1,4 +1,4 @@
--- Columns that hold the one spelling of what they say: digits, decimals over both digit counts and the sign, whole numbers, heights.
+-- Columns that hold the one spelling of what they say: digits, whole numbers, decimals over both digit counts and the sign.
 use mathlib.Core.Path.{_≡_, refl, sym, ap, _∙_}
 use mathlib.Core.Bool.{Bool, true, false, not, _&&_, _||_, true≢false}
 use mathlib.Core.List.{List, [], _∷_, _++_, append-nil}
@@ -10,22 +10,20 @@ use lib.Dec.{eqb}
 use lib.ListN.{length, getD, take, drop, length-drop}
 use lib.Seq.{length-take-le, split-at}
 use lib.IntN.{ℤ, pos, negsuc, natAbs}
-use borrow.Author.Tests.{eqb-true, lt-ltb, not-true}
+use borrow.Author.Tests.{eqb-true, not-true}
 use Rattle.columns.specs.Sets.{isDigit}
 use Rattle.columns.specs.Texts.{every, same}
-use Rattle.numerals.specs.Numbers.{numberFrom, number, wholeOf, amount, spellDigits, spellWhole, signedOf, signedFits, spellSigned, isNegative}
-use Rattle.distances.specs.Distances.{heightOf, spellHeight}
+use Rattle.numerals.specs.Numbers.{numberFrom, number, wholeOf, amount, spellDigits, spellWhole, isNegative}
 use Rattle.decimals.specs.Decimals.{spellMagnitude, spellDecimal}
 use Rattle.formats.specs.Tenths.{tenthsOf, spellTenths}
 use Rattle.numerals.specs.declared.Whole.the-variants as whole
-use Rattle.numerals.specs.declared.Signed.the-variants as signed
 use Rattle.columns.proofs.TextLaws.{and-split}
 use Rattle.columns.proofs.ColumnLaws.{either}
 use Rattle.columns.proofs.SameLaws.{same-refl}
 use Rattle.numerals.proofs.NumberLaws.{digit-range, number-below, digits-below}
-use Rattle.numerals.proofs.RoundTrip.{whole-trip, signed-trip}
+use Rattle.numerals.proofs.RoundTrip.{whole-trip}
 use Rattle.decimals.proofs.DecimalTrip.{decimal-trip}
-use Rattle.own_spelling.specs.OwnSpelling.{digitsAround, signedAround}
+use Rattle.own_numbers.specs.OwnNumbers.{digitsAround, signedAround}
 
 -- the first of the digits that are spelled
 first-digit : (k m : ℕ) (t : List ℕ) → spellDigits (suc k) m t ≡ (48 + m / 10 ^ k % 10) ∷ spellDigits k m t
@@ -151,13 +149,3 @@ signed-own a b none (c ∷ t) one n z e =
     either (eqb c 32) (eqb c 45 && not (same none t)) (h .1)
     (λ f. space-own a b c none t one l z g (eqb-true c 32 f))
     (λ f. let m = and-split (eqb c 45) (not (same none t)) f in minus-own a b c none t one l z g (eqb-true c 45 (m .0)) (not-true _ (m .1)))
-
--- A height in four digits is what it says in the one spelling.
-pub height-own : (p : List ℕ) → length p ≡ 4 → every isDigit p ≡ true → spellHeight (heightOf p) ≡ p
-unfolding heightOf spellHeight spellSigned
-height-own p n e =
-    let four : spellWhole 4 (number p) ≡ p = ap (λ (k : ℕ). spellWhole k (number p)) (sym n) ∙ own-says p e in
-    let few : number p < 10 ^ 4 = digits-below 4 p e (omega arith) in
-    let fits : signedFits 4 (pos (number p)) ≡ true = unfold signedFits in lt-ltb (number p) (10 ^ 4) few in
-    let says : signedOf p ≡ signed.Filled (pos (number p)) = ap signedOf (sym four) ∙ (unfold spellSigned in signed-trip 4 (pos (number p)) (omega arith) fits) in
-    rw says four

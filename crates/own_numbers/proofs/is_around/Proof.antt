@@ -1,4 +1,4 @@
--- `own_spelling::numbers::is_around` meets its contract: each return rewrites with the tests on its way.
+-- `own_numbers::is_around` meets its contract: each return rewrites with the tests on its way.
 use Rattle.columns.proofs.TextLaws.{from-on}
 use Rattle.columns.specs.Texts.{every}
 use Rattle.columns.specs.Sets.{isDigit}
@@ -7,11 +7,11 @@ use Prim.Native.Nat.{_+_}
 use denote.Ref.{now}
 use mathlib.Core.Path.{sym, ap, _∙_}
 use borrow.Author.Tests.{eq-eqb, ne-eqb, not-true, not-false}
-use Rattle.own_spelling.specs.OwnSpelling.{digitsAround}
+use Rattle.own_numbers.specs.OwnNumbers.{digitsAround}
 use native.Mathlib.Omega.{arith}
 use borrow.Author.Needs.{needs}
-use Rattle.own_spelling.proofs.numbers.is_around.Statement.{statement}
-use Rattle.own_spelling.proofs.numbers.is_around.Tie as tie
+use Rattle.own_numbers.proofs.is_around.Statement.{statement}
+use Rattle.own_numbers.proofs.is_around.Tie as tie
 
 shared-slice-read-if1 : tie.Need-shared-slice-read-if1
 shared-slice-read-if1 c = search needs

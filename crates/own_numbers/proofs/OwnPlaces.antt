@@ -17,8 +17,8 @@ use Rattle.numerals.specs.Numbers.{number, wholeOf, wholeFilled, spellDigits}
 use Rattle.numerals.specs.declared.Whole.the-variants as whole
 use Rattle.positions.specs.Positions.{wholeAt, wholeThere, arcSeconds, arcGood, arcOf, positionGood, positionOf, spellArc, spellPosition}
 use Rattle.columns.proofs.TextLaws.{and-split, every-take, every-drop}
-use Rattle.own_spelling.specs.OwnSpelling.{digitsAround}
-use Rattle.own_spelling.proofs.OwnLaws.{Around, around, digits-own, whole-says}
+use Rattle.own_numbers.specs.OwnNumbers.{digitsAround}
+use Rattle.own_numbers.proofs.OwnLaws.{Around, around, digits-own, whole-says}
 
 -- degrees, minutes and seconds are found in the seconds that they make
 apart : (g m s : ℕ) → m ≤ 59 → s ≤ 59 → ((3600 * g + 60 * m + s) / 3600 ≡ g) × ((3600 * g + 60 * m + s) / 60 % 60 ≡ m) × ((3600 * g + 60 * m + s) % 60 ≡ s)

@@ -1,12 +1,12 @@
--- `own_spelling::numbers::is_own_position` meets its contract: both halves are their own spelling.
+-- `own_numbers::is_own_position` meets its contract: both halves are their own spelling.
 use mathlib.Core.Path.{sym, _∙_}
 use mathlib.Core.Bool.{false≢true}
 use borrow.Author.Tests.{not-false}
-use Rattle.own_spelling.proofs.OwnPlaces.{position-wide, position-own}
+use Rattle.own_numbers.proofs.OwnPlaces.{position-wide, position-own}
 use native.Mathlib.Omega.{arith}
 use borrow.Author.Needs.{needs}
-use Rattle.own_spelling.proofs.numbers.is_own_position.Statement.{statement}
-use Rattle.own_spelling.proofs.numbers.is_own_position.Tie as tie
+use Rattle.own_numbers.proofs.is_own_position.Statement.{statement}
+use Rattle.own_numbers.proofs.is_own_position.Tie as tie
 
 sub-is-around : tie.Need-sub-is-around
 sub-is-around c = search needs

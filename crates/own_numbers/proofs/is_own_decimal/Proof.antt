@@ -1,6 +1,8 @@
--- `own_spelling::numbers::is_own_decimal` meets its contract, format by format.
-use Rattle.own_spelling.proofs.OwnLaws.{plain-own, signed-own}
+-- `own_numbers::is_own_decimal` meets its contract, format by format.
+use Rattle.own_numbers.specs.OwnNumbers.{digitsAround, signedAround}
+use Rattle.own_numbers.proofs.OwnLaws.{plain-own, signed-own}
 use Rattle.formats.specs.declared.Format.{Format}
+use Rattle.formats.specs.declared.Format.the-variants as format
 use Rattle.formats.specs.Tenths.{tenthsOf, spellTenths}
 use Rattle.formats.specs.Formats.{digitsBefore, digitsAfter, maySign, formatWidth}
 use Rattle.decimals.specs.Decimals.{spellMagnitude}
@@ -8,19 +10,33 @@ use Rattle.numerals.specs.Numbers.{spellDigits}
 use lib.ListN.{length}
 use denote.Ref.{now}
 use Prim.Native.Nat.{ℕ}
+use mathlib.Core.Bool.{Bool, true, cond}
 use mathlib.Core.List.{List}
-use mathlib.Core.Path.{_≡_, refl, sym, ap, subst, _∙_}
+use mathlib.Core.Path.{_≡_, refl, sym, ap, _∙_}
 use native.Mathlib.Omega.{arith}
 use borrow.Author.Needs.{needs}
-use Rattle.own_spelling.proofs.numbers.is_own_decimal.Statement.{statement}
-use Rattle.own_spelling.proofs.numbers.is_own_decimal.Tie as tie
+use Rattle.own_numbers.proofs.is_own_decimal.Statement.{statement}
+use Rattle.own_numbers.proofs.is_own_decimal.Tie as tie
 
 -- a field that is its own spelling in a format
 abbrev Own : Format → List ℕ → Type 0
 Own f p = spellTenths (digitsBefore f) (digitsAfter f) (maySign f) (tenthsOf (digitsBefore f) (digitsAfter f) (maySign f) p) ≡ p
 
-at-format : {f g : Format} {p : List ℕ} → f ≡ g → Own g p → Own f p
-at-format {p = p} e h = subst (λ (x : Format). Own x p) (sym e) h
+-- what is asked of it: digits around the point, behind a sign where one may stand
+abbrev asked : Format → List ℕ → Bool
+asked f p = cond (maySign f) (signedAround (digitsBefore f) (spellMagnitude (digitsBefore f) (digitsAfter f) 0) p) (digitsAround 46 (digitsBefore f) p)
+
+-- what passes is its own spelling in each format
+passes-own : (f : Format) (p : List ℕ) → length p ≡ formatWidth f → asked f p ≡ true → Own f p
+passes-own format.Frequency p n e = plain-own 5 5 p (omega arith) n e
+passes-own format.Power p n e = signed-own 3 1 _ p (omega arith) n refl e
+passes-own format.Azimuth p n e = plain-own 3 1 p (omega arith) n e
+passes-own format.Elevation p n e = signed-own 2 1 _ p (omega arith) n refl e
+passes-own format.Gain p n e = plain-own 2 1 p (omega arith) n e
+
+-- and so where the format is told
+own-in : {f g : Format} {p : List ℕ} → f ≡ g → length p ≡ formatWidth f → asked g p ≡ true → Own f p
+own-in {f = f} {p = p} told n e = passes-own f p n (ap (λ (x : Format). asked x p) told ∙ e)
 
 enum-told : tie.Need-enum-told
 enum-told c = search needs
@@ -74,36 +90,21 @@ is-around-requires-3 c κs =
     omega arith
 
 returns : tie.Need-returns
-returns c =
-    let s = c .before .before .before .before in
-    let l : length (now (s .args .s)) ≡ 11 = s .pre ∙ ap formatWidth (c .before .enum-told .given .1) in
-    λ e. at-format (c .before .enum-told .given .1) (plain-own 5 5 (now (s .args .s)) (omega arith) l (sym (c .is-around .ensures) ∙ e))
+returns c = λ e. own-in (c .before .enum-told .given .1) (c .before .before .before .before .pre) (sym (c .is-around .ensures) ∙ e)
 
 returns-2 : tie.Need-returns-2
 unfolding spellMagnitude spellDigits
-returns-2 c =
-    let s = c .before .before .before .before .before in
-    let l : length (now (s .args .s)) ≡ 6 = s .pre ∙ ap formatWidth (c .before .before .enum-told2 .given .1) in
-    λ e. at-format (c .before .before .enum-told2 .given .1) (signed-own 3 1 _ (now (s .args .s)) (omega arith) l refl (sym (c .is-signed-around .ensures) ∙ e))
+returns-2 c = λ e. own-in (c .before .before .enum-told2 .given .1) (c .before .before .before .before .before .pre) (sym (c .is-signed-around .ensures) ∙ e)
 
 returns-3 : tie.Need-returns-3
-returns-3 c =
-    let s = c .before .before .before .before in
-    let l : length (now (s .args .s)) ≡ 5 = s .pre ∙ ap formatWidth (c .before .enum-told3 .given .1) in
-    λ e. at-format (c .before .enum-told3 .given .1) (plain-own 3 1 (now (s .args .s)) (omega arith) l (sym (c .is-around2 .ensures) ∙ e))
+returns-3 c = λ e. own-in (c .before .enum-told3 .given .1) (c .before .before .before .before .pre) (sym (c .is-around2 .ensures) ∙ e)
 
 returns-4 : tie.Need-returns-4
 unfolding spellMagnitude spellDigits
-returns-4 c =
-    let s = c .before .before .before .before .before in
-    let l : length (now (s .args .s)) ≡ 5 = s .pre ∙ ap formatWidth (c .before .before .enum-told4 .given .1) in
-    λ e. at-format (c .before .before .enum-told4 .given .1) (signed-own 2 1 _ (now (s .args .s)) (omega arith) l refl (sym (c .is-signed-around2 .ensures) ∙ e))
+returns-4 c = λ e. own-in (c .before .before .enum-told4 .given .1) (c .before .before .before .before .before .pre) (sym (c .is-signed-around2 .ensures) ∙ e)
 
 returns-5 : tie.Need-returns-5
-returns-5 c =
-    let s = c .before .before .before .before in
-    let l : length (now (s .args .s)) ≡ 4 = s .pre ∙ ap formatWidth (c .before .enum-told5 .given .1) in
-    λ e. at-format (c .before .enum-told5 .given .1) (plain-own 2 1 (now (s .args .s)) (omega arith) l (sym (c .is-around3 .ensures) ∙ e))
+returns-5 c = λ e. own-in (c .before .enum-told5 .given .1) (c .before .before .before .before .pre) (sym (c .is-around3 .ensures) ∙ e)
 
 pub is-own-decimal-spec : {M : Type 1} → statement M
 is-own-decimal-spec =

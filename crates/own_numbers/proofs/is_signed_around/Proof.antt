@@ -1,5 +1,5 @@
--- `own_spelling::numbers::is_signed_around` meets its contract: each return rewrites with the tests on its way.
-use Rattle.own_spelling.specs.OwnSpelling.{digitsAround}
+-- `own_numbers::is_signed_around` meets its contract: each return rewrites with the tests on its way.
+use Rattle.own_numbers.specs.OwnNumbers.{digitsAround}
 use Rattle.columns.proofs.TextLaws.{from-on}
 use Rattle.columns.specs.Texts.{same}
 use lib.ListN.{drop}
@@ -7,10 +7,10 @@ use denote.Ref.{now}
 use mathlib.Core.Bool.{not}
 use mathlib.Core.Path.{_≡_, ap, _∙_}
 use borrow.Author.Tests.{eq-eqb, ne-eqb, not-true, not-false}
-use Rattle.own_spelling.specs.OwnSpelling.{signedAround}
+use Rattle.own_numbers.specs.OwnNumbers.{signedAround}
 use borrow.Author.Needs.{needs}
-use Rattle.own_spelling.proofs.numbers.is_signed_around.Statement.{statement}
-use Rattle.own_spelling.proofs.numbers.is_signed_around.Tie as tie
+use Rattle.own_numbers.proofs.is_signed_around.Statement.{statement}
+use Rattle.own_numbers.proofs.is_signed_around.Tie as tie
 
 -- what was asked of the columns behind the sign
 around-tail : (c : tie.After-is-around) → c .is-around .result ≡ digitsAround 46 (c .before .before .before .before .args .a) (drop 1 (now (c .before .before .before .before .args .s)))
