@@ -16,10 +16,10 @@ fn put(s: &[u8]) {
 
 // Prints a number with its sign.
 fn put_number(v: i64) {
-    if numerals::is_negative(v) {
+    if numeral_writing::is_negative(v) {
         put(b"-");
     }
-    io::print_decimal(1, numerals::magnitude(v));
+    io::print_decimal(1, numeral_writing::magnitude(v));
 }
 
 // Prints columns that were written, or that they were refused.
@@ -44,11 +44,11 @@ fn put_test(passed: bool) {
 
 // A whole number in lent columns.
 fn write_whole(s: &mut [u8], v: u64) {
-    if !numerals::fits_whole(s.len(), v) {
+    if !numeral_writing::fits_whole(s.len(), v) {
         put(b" refused\n");
         return;
     }
-    numerals::put_whole(s, v);
+    numeral_writing::put_whole(s, v);
     put_columns(true, s);
 }
 
@@ -75,18 +75,18 @@ fn whole(s: &[u8]) {
 
 // The four columns of a height.
 fn write_height(v: i64) {
-    if !numerals::fits_signed(4, v) {
+    if !numeral_writing::fits_signed(4, v) {
         put(b" refused\n");
         return;
     }
     let mut space = [0u8; 4];
-    numerals::put_signed(&mut space, v);
+    numeral_writing::put_signed(&mut space, v);
     put_columns(true, &space);
 }
 
 // A whole number with a sign, and its spelling in four columns.
 fn signed(s: &[u8], only_written: bool) {
-    match numerals::read_signed(s) {
+    match signed_numerals::read_signed(s) {
         Signed::Bad(_) => put(b" bad\n"),
         Signed::Blank => put(b" blank\n"),
         Signed::Filled(v) => {
@@ -136,7 +136,7 @@ fn decimal(format: Format, s: &[u8]) {
 
 // A typed number, written as a decimal.
 fn typed(format: Format, s: &[u8]) {
-    match numerals::read_signed(s) {
+    match signed_numerals::read_signed(s) {
         Signed::Bad(_) => put(b" bad\n"),
         Signed::Blank => put(b" blank\n"),
         Signed::Filled(v) => {

@@ -3,7 +3,7 @@ use columns::texts::write_blank;
 use days::dates::Date;
 use days::dates::Day;
 use days::dates::fits_day;
-use numerals::put_digits;
+use numeral_writing::put_digits;
 ghost use mathlib.Core.Path.{_≡_};
 ghost use mathlib.Core.Bool.{cond, _&&_};
 ghost use lib.ListN.{length};

@@ -1,11 +1,11 @@
 // Decimals over the digits before the point and behind it, and the sign: read and written.
 use columns::texts::byte;
 use columns::texts::is_blank_stepwise;
+use numeral_writing::is_negative;
+use numeral_writing::magnitude;
+use numeral_writing::put_digits;
 use numerals::Whole;
 use numerals::digits;
-use numerals::is_negative;
-use numerals::magnitude;
-use numerals::put_digits;
 ghost use mathlib.Core.Path.{_≡_};
 ghost use mathlib.Core.List.{_++_};
 ghost use lib.ListN.{length, take};

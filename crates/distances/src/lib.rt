@@ -1,16 +1,16 @@
 // Distances: the radius 4D, and the heights 4Z and 9Y. They are kept apart by their types.
 use columns::texts::write_blank;
+use numeral_writing::fits_signed;
+use numeral_writing::fits_whole;
+use numeral_writing::is_negative;
+use numeral_writing::magnitude;
+use numeral_writing::put_signed;
+use numeral_writing::put_whole;
 use numerals::Signed;
 use numerals::amount_of;
-use numerals::fits_signed;
-use numerals::fits_whole;
-use numerals::is_negative;
-use numerals::magnitude;
-use numerals::put_signed;
-use numerals::put_whole;
-use numerals::read_signed;
 use numerals::read_whole;
 use numerals::says_number;
+use signed_numerals::read_signed;
 ghost use mathlib.Core.Path.{_≡_};
 ghost use lib.ListN.{length};
 ghost use Rattle.numerals.specs.Numbers.{wholeOf, wholeFilled};

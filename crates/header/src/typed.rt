@@ -5,7 +5,7 @@ use columns::sets::Set;
 use columns::texts::equal;
 use columns::texts::is_left_text;
 use header_dates::fits_date;
-use numerals::fits_whole;
+use numeral_writing::fits_whole;
 use serials::fits_serial;
 ghost use mathlib.Core.Path.{_≡_};
 ghost use lib.ListN.{take, drop};

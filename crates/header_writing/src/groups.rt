@@ -2,7 +2,7 @@
 use columns::texts::write_byte;
 use columns::texts::write_text;
 use header::Header;
-use numerals::put_whole;
+use numeral_writing::put_whole;
 use serials::put_serial;
 ghost use mathlib.Core.Path.{_≡_};
 ghost use lib.ListN.{length, take, drop};

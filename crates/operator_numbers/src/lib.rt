@@ -1,5 +1,5 @@
 // Numbers and frequencies as people read them, put into the lent bytes behind what stands there already.
-use numerals::put_whole;
+use numeral_writing::put_whole;
 use operator_counts::Hundredths;
 use printing::pieces::put_text;
 ghost use mathlib.Core.Path.{_≡_};

@@ -1,7 +1,7 @@
 // Positions written: whether a typed position is on the ground, and its fifteen columns.
-use numerals::is_negative;
-use numerals::magnitude;
-use numerals::put_whole;
+use numeral_writing::is_negative;
+use numeral_writing::magnitude;
+use numeral_writing::put_whole;
 use positions::Position;
 ghost use mathlib.Core.Path.{_≡_};
 ghost use mathlib.Core.Bool.{cond};

@@ -1,5 +1,5 @@
 // Pieces of a line, each put into the lent bytes behind what stands there already.
-use numerals::put_whole;
+use numeral_writing::put_whole;
 ghost use mathlib.Core.Path.{_≡_};
 ghost use mathlib.Core.List.{_++_};
 ghost use Prim.Native.Nat.{_+_, _≤_};

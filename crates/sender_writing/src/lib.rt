@@ -3,7 +3,7 @@ use columns::texts::write_blank;
 use columns::texts::write_text;
 use day_writing::write_day;
 use header::Header;
-use numerals::put_whole;
+use numeral_writing::put_whole;
 ghost use mathlib.Core.Path.{_≡_};
 ghost use mathlib.Core.Bool.{true};
 ghost use lib.ListN.{length, take, drop};

@@ -1,8 +1,8 @@
 // The header's own file number, field 12, which may be left out.
 use columns::texts::write_blank;
+use numeral_writing::fits_whole;
+use numeral_writing::put_whole;
 use numerals::Whole;
-use numerals::fits_whole;
-use numerals::put_whole;
 use numerals::read_whole;
 ghost use mathlib.Core.Path.{_≡_};
 ghost use lib.ListN.{length};

@@ -1,4 +1,4 @@
--- `numerals::after_sign` meets its contract.
+-- `signed_numerals::after_sign` meets its contract.
 use Prim.Native.Nat.{_≤_}
 use mathlib.Core.Path.{sym, _∙_}
 use mathlib.Core.Logic.{inl, inr}
@@ -10,10 +10,10 @@ use borrow.Author.Tests.{ne-eqb}
 use Rattle.columns.proofs.SetLaws.{keyed}
 use Rattle.columns.proofs.TextLaws.{byte-below, from-on}
 use Rattle.columns.specs.Sets.{among}
 use Rattle.numerals.specs.Numbers.{unsigned}
 use borrow.Author.Needs.{needs}
-use Rattle.numerals.proofs.after_sign.Statement.{statement}
-use Rattle.numerals.proofs.after_sign.Tie as tie
+use Rattle.signed_numerals.proofs.after_sign.Statement.{statement}
+use Rattle.signed_numerals.proofs.after_sign.Tie as tie
 
 byte-requires : tie.Need-byte-requires
 byte-requires c κs = search needs

@@ -1,10 +1,10 @@
--- `numerals::put_whole` meets its contract.
+-- `numeral_writing::put_whole` meets its contract.
 use native.Mathlib.Nat.{zero-add}
 use lib.Seq.{drop-length}
 use mathlib.Core.Path.{_∙_}
 use borrow.Author.Needs.{needs}
-use Rattle.numerals.proofs.put_whole.Statement.{statement}
-use Rattle.numerals.proofs.put_whole.Tie as tie
+use Rattle.numeral_writing.proofs.put_whole.Statement.{statement}
+use Rattle.numeral_writing.proofs.put_whole.Tie as tie
 
 put-digits-requires : tie.Need-put-digits-requires
 put-digits-requires c κs = search needs

@@ -1,12 +1,12 @@
--- `numerals::fits_signed` meets its contract.
+-- `numeral_writing::fits_signed` meets its contract.
 use mathlib.Core.Path.{_≡_, _∙_}
 use borrow.Author.Tests.{lt-ltb}
 use mir.Facts.{toZ-ofZ}
 use Rattle.numerals.specs.Numbers.{isNegative, signedFits}
 use native.Mathlib.Omega.{arith}
 use borrow.Author.Needs.{needs}
-use Rattle.numerals.proofs.fits_signed.Statement.{statement}
-use Rattle.numerals.proofs.fits_signed.Tie as tie
+use Rattle.numeral_writing.proofs.fits_signed.Statement.{statement}
+use Rattle.numeral_writing.proofs.fits_signed.Tie as tie
 
 returns : tie.Need-returns
 unfolding signedFits

@@ -1,7 +1,7 @@
--- `numerals::has_minus` meets its contract.
+-- `signed_numerals::has_minus` meets its contract.
 use borrow.Author.Needs.{needs}
-use Rattle.numerals.proofs.has_minus.Statement.{statement}
-use Rattle.numerals.proofs.has_minus.Tie as tie
+use Rattle.signed_numerals.proofs.has_minus.Statement.{statement}
+use Rattle.signed_numerals.proofs.has_minus.Tie as tie
 
 byte-requires : tie.Need-byte-requires
 byte-requires c κs = search needs

@@ -1,12 +1,12 @@
--- `numerals::with_sign` meets its contract.
+-- `signed_numerals::with_sign` meets its contract.
 use mir.Syntax.{w64}
 use mir.Facts.{toZ-pos, toZ-ofZ}
 use lib.IntN.{pos, +ℤ-idl}
 use Rattle.numerals.proofs.Signs.{neg-fits}
 use native.Mathlib.Omega.{arith}
 use borrow.Author.Needs.{needs}
-use Rattle.numerals.proofs.with_sign.Statement.{statement}
-use Rattle.numerals.proofs.with_sign.Tie as tie
+use Rattle.signed_numerals.proofs.with_sign.Statement.{statement}
+use Rattle.signed_numerals.proofs.with_sign.Tie as tie
 
 cast-n : tie.Need-cast-n
 cast-n c = search needs

@@ -1,4 +1,4 @@
--- `numerals::magnitude` meets its contract: the lowest number has a magnitude too.
+-- `numeral_writing::magnitude` meets its contract: the lowest number has a magnitude too.
 use Prim.Native.Nat.{_^_, _<_}
 use mathlib.Core.Path.{_≡_, sym, _∙_}
 use mathlib.Core.Bool.{true, false}
@@ -7,12 +7,12 @@ use lib.Signed.{mag}
 use mir.Syntax.{w64}
 use mir.Val.{SFits, toZ, ofZ}
 use mir.Facts.{toZ-ofZ, fits-natAbs}
 use Rattle.numerals.specs.Numbers.{isNegative}
 use Rattle.numerals.proofs.Signs.{neg-fits, below-zero, non-neg, up-one, mag-one}
 use native.Mathlib.Omega.{arith}
 use borrow.Author.Needs.{needs}
-use Rattle.numerals.proofs.magnitude.Statement.{statement}
-use Rattle.numerals.proofs.magnitude.Tie as tie
+use Rattle.numeral_writing.proofs.magnitude.Statement.{statement}
+use Rattle.numeral_writing.proofs.magnitude.Tie as tie
 
 -- the test told the sign
 negative : (c : tie.Then1) → isNegative (c .before .args .v) ≡ true

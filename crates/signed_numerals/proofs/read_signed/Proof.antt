@@ -1,14 +1,14 @@
--- `numerals::read_signed` meets its contract, by the law of numbers with a sign.
+-- `signed_numerals::read_signed` meets its contract, by the law of numbers with a sign.
 use Rattle.numerals.specs.Numbers.{inSign, admitsWhole, wholeDigits, signedOf}
 use Rattle.columns.proofs.TextLaws.{from-on}
 use Rattle.numerals.proofs.NumberLaws.{whole-small, number-blank, number-read}
 use Rattle.numerals.proofs.Letters.{signed-whole}
 use mathlib.Core.Path.{ap, _∙_}
 use mathlib.Core.Bool.{true}
 use Rattle.flaws.specs.declared.Flaw.{Flaw}
 use borrow.Author.Needs.{needs}
-use Rattle.numerals.proofs.read_signed.Statement.{statement}
-use Rattle.numerals.proofs.read_signed.Tie as tie
+use Rattle.signed_numerals.proofs.read_signed.Statement.{statement}
+use Rattle.signed_numerals.proofs.read_signed.Tie as tie
 
 spaces-requires : tie.Need-spaces-requires
 spaces-requires c κs = search needs

@@ -1,13 +1,13 @@
--- `numerals::put_signed` meets its contract.
+-- `numeral_writing::put_signed` meets its contract.
 use mathlib.Core.Path.{_≡_, _∙_}
 use mir.Facts.{toZ-ofZ}
 use denote.Ref.{now}
 use Rattle.numerals.specs.Numbers.{isNegative, spellSigned}
 use Rattle.numerals.proofs.Spelling.{put-minus}
 use native.Mathlib.Omega.{arith}
 use borrow.Author.Needs.{needs}
-use Rattle.numerals.proofs.put_signed.Statement.{statement}
-use Rattle.numerals.proofs.put_signed.Tie as tie
+use Rattle.numeral_writing.proofs.put_signed.Statement.{statement}
+use Rattle.numeral_writing.proofs.put_signed.Tie as tie
 
 -- the sign was told
 told : (c : tie.After-is-negative) → c .is-negative .result ≡ isNegative (c .before .before .args .v)

@@ -1,10 +1,10 @@
--- `numerals::fits_whole` meets its contract: with the places that are left, what is left of the number fits as the number does.
+-- `numeral_writing::fits_whole` meets its contract: with the places that are left, what is left of the number fits as the number does.
 use mathlib.Core.Path.{_≡_, refl, sym, _∙_}
 use Rattle.numerals.specs.Numbers.{wholeFits}
 use Rattle.numerals.proofs.NumberLaws.{fits-turn, fits-zero, fits-none}
 use borrow.Author.Needs.{needs}
-use Rattle.numerals.proofs.fits_whole.Statement.{statement}
-use Rattle.numerals.proofs.fits_whole.Tie as tie
+use Rattle.numeral_writing.proofs.fits_whole.Statement.{statement}
+use Rattle.numeral_writing.proofs.fits_whole.Tie as tie
 
 abbrev Inv-loop : tie.InvT-loop
 Inv-loop k v rest₀ left₀ rest left = wholeFits k v ≡ wholeFits left rest

@@ -1,13 +1,13 @@
--- `numerals::put_digits` meets its contract. The invariant: what is left to write, in front of what stands, is what was to be written.
+-- `numeral_writing::put_digits` meets its contract. The invariant: what is left to write, in front of what stands, is what was to be written.
 use Prim.Native.Nat.{_≤_, _^_, _+_, _-_, _/_}
 use mathlib.Core.Path.{_≡_, refl, sym, _∙_}
 use native.Mathlib.Omega.{arith}
 use lib.ListN.{length, take, drop, length-set}
 use lib.Seq.{take-set-le}
 use Rattle.numerals.specs.Numbers.{spellDigits}
 use Rattle.numerals.proofs.Spelling.{spell-turn, div-turn, div-none, put-done}
-use Rattle.numerals.proofs.put_digits.Statement.{statement}
-use Rattle.numerals.proofs.put_digits.Tie as tie
+use Rattle.numeral_writing.proofs.put_digits.Statement.{statement}
+use Rattle.numeral_writing.proofs.put_digits.Tie as tie
 
 abbrev Inv-loop : tie.InvT-loop
 Inv-loop s₀ at count v rest₀ left₀ s rest left =

@@ -1,13 +1,13 @@
--- `numerals::in_sign` meets its contract, case by case.
+-- `signed_numerals::in_sign` meets its contract, case by case.
 use mathlib.Core.Path.{_≡_, sym, ap, _∙_}
 use mir.Facts.{toZ-ofZ}
 use denote.Ref.{now}
 use Rattle.flaws.specs.Flaws.{letterOf, unread}
 use Rattle.numerals.specs.Numbers.{inSign}
 use Rattle.numerals.specs.declared.Signed.the-variants as signed
 use borrow.Author.Needs.{needs}
-use Rattle.numerals.proofs.in_sign.Statement.{statement}
-use Rattle.numerals.proofs.in_sign.Tie as tie
+use Rattle.signed_numerals.proofs.in_sign.Statement.{statement}
+use Rattle.signed_numerals.proofs.in_sign.Tie as tie
 
 enum-told : tie.Need-enum-told
 enum-told c = search needs
