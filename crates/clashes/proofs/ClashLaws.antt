@@ -8,13 +8,14 @@ use borrow.Author.Tests.{eq-eqb, ne-eqb}
 use Rattle.columns.specs.Texts.{same}
 use Rattle.columns.proofs.SameLaws.{same-true}
 use Rattle.stations.specs.Stations.{codeAt, siteAt}
+use Rattle.standing.specs.Standing.{standAlike}
 use Rattle.forms.specs.Counting.{first}
 use Rattle.forms.proofs.CountLaws.{first-cong}
 use Rattle.chains.specs.Chains.{bears}
 use Rattle.chains.specs.Seconds.{apart}
 use Rattle.chains.specs.Keys.{keyAt}
-use Rattle.clashes.specs.Clashes.{standAlike, clashing, clashAt}
-use Rattle.clashes.specs.Sites.{atSite, GoodTakesPart, firstElsewhere}
+use Rattle.clashes.specs.Clashes.{clashing, clashAt}
+use Rattle.sites.specs.Sites.{atSite, GoodTakesPart, firstElsewhere}
 
 -- the last of four tests fails
 last-fails : (a b c d : Bool) → d ≡ false → (a && (b && (c && d))) ≡ false

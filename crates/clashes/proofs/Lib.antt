@@ -1,4 +1,1 @@
-pub mod SameLaws
-pub mod KeptLaws
 pub mod ClashLaws
-pub mod SiteLaws

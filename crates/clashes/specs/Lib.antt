@@ -1,3 +1,1 @@
 pub mod Clashes
-pub mod Kept
-pub mod Sites

@@ -34,7 +34,8 @@ use Rattle.places.specs.Places.{placesOf, fieldCount}
 use Rattle.showing.specs.Showing.{fieldAt, showOutcome, shownField}
 use Rattle.stations.specs.Stations.{codeAt, referenceAt, siteAt, positionAt, groundAt}
 use Rattle.forms.specs.Forms.{rowAt, badAt, trailerOf, closed, headAt, lowestAt, foundAt, fitsForm}
-use Rattle.clashes.specs.Clashes.{samePlace, standAlike, clashing, clashAt}
+use Rattle.standing.specs.Standing.{samePlace, standAlike}
+use Rattle.clashes.specs.Clashes.{clashing, clashAt}
 use Rattle.sheet.specs.Sheets.{twinAt, rowOf, judgedSheet, sheetOf}
 use Rattle.mending.specs.Replacing.{touched, mendedRow, writes, rowsWritten}
 use Rattle.mending.specs.Replacing as replacing

@@ -18,7 +18,8 @@ use Rattle.files.proofs.ReplacedLaws.{replaced-record}
 use Rattle.forms.specs.Counting.{rows}
 use Rattle.stations.specs.Stations.{codeAt, referenceAt, siteAt, positionAt, groundAt}
 use Rattle.forms.specs.OwnForm.{form, rowWidth, withTrailer}
-use Rattle.clashes.specs.Clashes.{sameCount, samePlace, standAlike, clashing, clashAt}
+use Rattle.standing.specs.Standing.{sameCount, samePlace, standAlike}
+use Rattle.clashes.specs.Clashes.{clashing, clashAt}
 use Rattle.sheet.specs.Sheets.{twinAt, rowOf, judgedSheet}
 use Rattle.forms.specs.Forms.{rowBytes}
 use Rattle.mending.specs.Replacing.{touched, mendedRow, mendedSheet}

@@ -21,12 +21,12 @@ use Rattle.chains.specs.Chains.{bears, firstBearer, slots, recordNumbers}
 use Rattle.chains.specs.Keys.{keyAt}
 use Rattle.chains.specs.Scopes.{inScope}
 use Rattle.chains.proofs.ChainLaws.{none-chained, out-leads-none, left-out}
+use Rattle.sites.specs.Kept.{unjudged}
+use Rattle.sites.specs.Sites.{GoodTakesPart, firstElsewhere}
+use Rattle.sites.proofs.KeptLaws.{none-kept}
+use Rattle.sites.proofs.SiteLaws.{no-sites, site-out}
 use Rattle.clashes.specs.Clashes.{clashAt}
-use Rattle.clashes.specs.Kept.{unjudged}
-use Rattle.clashes.specs.Sites.{GoodTakesPart, firstElsewhere}
-use Rattle.clashes.proofs.KeptLaws.{none-kept}
 use Rattle.clashes.proofs.ClashLaws.{own-broken, own-good}
-use Rattle.clashes.proofs.SiteLaws.{no-sites, site-out}
 use Rattle.sheet.specs.Sheets.{twinAt, rowOf}
 use Rattle.sheet.specs.Entered.{byReference, goodOf, scoped, Entered}
 

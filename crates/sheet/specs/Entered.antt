@@ -12,8 +12,8 @@ use Rattle.chains.specs.declared.keys.Scope.{Scope}
 use Rattle.chains.specs.Chains.{Search, Chains}
 use Rattle.chains.specs.Keys.{lookup, Chained}
 use Rattle.chains.specs.Scopes.{inScope}
-use Rattle.clashes.specs.Kept.{Kept}
-use Rattle.clashes.specs.Sites.{Sites}
+use Rattle.sites.specs.Kept.{Kept}
+use Rattle.sites.specs.Sites.{Sites}
 use Rattle.sheet.specs.Sheets.{rowOf}
 
 -- Stations are looked up by 13X.

@@ -2,10 +2,10 @@
 use crate::twins::enter_reference;
 use chains::chaining::RECORD_NUMBERS;
 use chains::keys::SLOTS;
-use clashes::CODES;
 use clashes::enter_site;
-use clashes::kept_code;
 use forms::form::ROW_WIDTH;
+use sites::CODES;
+use sites::kept_code;
 ghost use mathlib.Core.Path.{_≡_};
 ghost use mathlib.Core.Bool.{Bool, true, cond};
 ghost use mathlib.Core.List.{_∷_, []};

@@ -2,11 +2,11 @@
 use alike::alike_in_front;
 use chains::chaining::RECORD_NUMBERS;
 use chains::keys::SLOTS;
-use clashes::CODES;
-use clashes::UNJUDGED;
 use files::lengths::record_in;
 use forms::form::ROW_WIDTH;
 use header_judging::filed_header_code;
+use sites::CODES;
+use sites::UNJUDGED;
 use station_rows::station_row;
 use trailers::standing_trailer;
 ghost use mathlib.Core.Path.{_≡_};

@@ -2,7 +2,7 @@
 use denote.Ref.{now}
 use mathlib.Core.Path.{sym, _∙_}
 use native.Mathlib.Omega.{arith}
-use Rattle.clashes.proofs.SiteLaws.{bearer-most, none-elsewhere, site-alike, site-unlike}
+use Rattle.sites.proofs.SiteLaws.{bearer-most, none-elsewhere, site-alike, site-unlike}
 use borrow.Author.Needs.{needs}
 use Rattle.clashes.proofs.enter_site.Statement.{statement}
 use Rattle.clashes.proofs.enter_site.Tie as tie

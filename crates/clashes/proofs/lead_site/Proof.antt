@@ -2,7 +2,7 @@
 use denote.Ref.{now}
 use mathlib.Core.Path.{sym, _∙_}
 use native.Mathlib.Omega.{arith}
-use Rattle.clashes.proofs.SiteLaws.{site-broken, site-leads, site-led}
+use Rattle.sites.proofs.SiteLaws.{site-broken, site-leads, site-led}
 use borrow.Author.Needs.{needs}
 use Rattle.clashes.proofs.lead_site.Statement.{statement}
 use Rattle.clashes.proofs.lead_site.Tie as tie

@@ -1,11 +1,11 @@
--- `clashes::note_second` meets its contract: a second is known, or the station breaks a rule, or it is the second.
+-- `sites::note_second` meets its contract: a second is known, or the station breaks a rule, or it is the second.
 use denote.Ref.{now}
 use mathlib.Core.Path.{sym, _∙_}
 use native.Mathlib.Omega.{arith}
-use Rattle.clashes.proofs.SiteLaws.{second-known, second-broken, second-good}
+use Rattle.sites.proofs.SiteLaws.{second-known, second-broken, second-good}
 use borrow.Author.Needs.{needs}
-use Rattle.clashes.proofs.note_second.Statement.{statement}
-use Rattle.clashes.proofs.note_second.Tie as tie
+use Rattle.sites.proofs.note_second.Statement.{statement}
+use Rattle.sites.proofs.note_second.Tie as tie
 
 mul-if1 : tie.Need-mul-if1
 mul-if1 c = search needs

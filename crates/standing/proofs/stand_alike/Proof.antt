@@ -1,12 +1,12 @@
--- `clashes::stand_alike` meets its contract: the heights, then the places.
+-- `standing::stand_alike` meets its contract: the heights, then the places.
 use denote.Ref.{now}
 use mathlib.Core.Path.{_≡_}
 use mathlib.Core.Bool.{true, false, and-true, and-false}
 use Rattle.stations.specs.Stations.{positionAt, groundAt}
-use Rattle.clashes.specs.Clashes.{sameCount, samePlace, standAlike}
+use Rattle.standing.specs.Standing.{sameCount, samePlace, standAlike}
 use borrow.Author.Needs.{needs}
-use Rattle.clashes.proofs.stand_alike.Statement.{statement}
-use Rattle.clashes.proofs.stand_alike.Tie as tie
+use Rattle.standing.proofs.stand_alike.Statement.{statement}
+use Rattle.standing.proofs.stand_alike.Tie as tie
 
 ground-requires : tie.Need-ground-requires
 ground-requires c κs = search needs

@@ -1,9 +1,9 @@
--- `clashes::kept_code` meets its contract: the code that is kept is right, and so is the one that is kept now.
+-- `sites::kept_code` meets its contract: the code that is kept is right, and so is the one that is kept now.
 use denote.Ref.{now}
-use Rattle.clashes.proofs.KeptLaws.{one-kept}
+use Rattle.sites.proofs.KeptLaws.{one-kept}
 use borrow.Author.Needs.{needs}
-use Rattle.clashes.proofs.kept_code.Statement.{statement}
-use Rattle.clashes.proofs.kept_code.Tie as tie
+use Rattle.sites.proofs.kept_code.Statement.{statement}
+use Rattle.sites.proofs.kept_code.Tie as tie
 
 element-copy-out-held : tie.Need-element-copy-out-held
 element-copy-out-held c = search needs

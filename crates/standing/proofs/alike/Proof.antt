@@ -1,8 +1,8 @@
--- `clashes::alike` meets its contract: by the bytes, else by what they say.
+-- `standing::alike` meets its contract: by the bytes, else by what they say.
 use mathlib.Core.Path.{sym}
 use borrow.Author.Needs.{needs}
-use Rattle.clashes.proofs.alike.Statement.{statement}
-use Rattle.clashes.proofs.alike.Tie as tie
+use Rattle.standing.proofs.alike.Statement.{statement}
+use Rattle.standing.proofs.alike.Tie as tie
 
 spelled-alike-requires : tie.Need-spelled-alike-requires
 spelled-alike-requires c κs = search needs

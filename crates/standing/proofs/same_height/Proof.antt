@@ -1,8 +1,8 @@
--- `clashes::same_height` meets its contract: the counts of metres.
+-- `standing::same_height` meets its contract: the counts of metres.
 use Rattle.numerals.proofs.Signs.{in-bits}
 use borrow.Author.Needs.{needs}
-use Rattle.clashes.proofs.same_height.Statement.{statement}
-use Rattle.clashes.proofs.same_height.Tie as tie
+use Rattle.standing.proofs.same_height.Statement.{statement}
+use Rattle.standing.proofs.same_height.Tie as tie
 
 same-count-requires : tie.Need-same-count-requires
 same-count-requires c κs = search needs

@@ -8,7 +8,7 @@ use lib.ListN.{length, getD, set, replicate, length-set, length-replicate, getD-
 use lib.Seq.{getD-set-same, getD-set-other}
 use Rattle.files.specs.Files.{mostStations}
 use Rattle.stations.specs.Stations.{codeAt}
-use Rattle.clashes.specs.Kept.{Kept, unjudged}
+use Rattle.sites.specs.Kept.{Kept, unjudged}
 
 -- Before any station is judged no code is kept.
 pub none-kept : (file : List ℕ) → Kept file (replicate (mostStations + 1) unjudged)

@@ -5,12 +5,12 @@ use mathlib.Core.Bool.{Bool}
 use mathlib.Core.List.{List}
 use lib.Dec.{eqb}
 use Rattle.stations.specs.Stations.{codeAt}
+use Rattle.standing.specs.Standing.{standAlike}
 use Rattle.forms.specs.Counting.{first}
 use Rattle.chains.specs.declared.keys.Key.the-variants as key
 use Rattle.chains.specs.Chains.{Search, Chains}
 use Rattle.chains.specs.Seconds.{apart, Seconds}
 use Rattle.chains.specs.Keys.{lookup}
-use Rattle.clashes.specs.Clashes.{standAlike}
 
 -- Stations are looked up by operator and site.
 abbrev pub atSite : (ℕ → Bool) → List ℕ → Search

@@ -1,10 +1,10 @@
--- `clashes::same_position` meets its contract: east, then north.
+-- `standing::same_position` meets its contract: east, then north.
 use mathlib.Core.Path.{_≡_}
 use Rattle.numerals.proofs.Signs.{in-bits}
-use Rattle.clashes.specs.Clashes.{sameCount}
+use Rattle.standing.specs.Standing.{sameCount}
 use borrow.Author.Needs.{needs}
-use Rattle.clashes.proofs.same_position.Statement.{statement}
-use Rattle.clashes.proofs.same_position.Tie as tie
+use Rattle.standing.proofs.same_position.Statement.{statement}
+use Rattle.standing.proofs.same_position.Tie as tie
 
 -- the counts to the east
 east : (c : tie.After-same-count) → let a = c .before .before .before .args in c .same-count .result ≡ sameCount (a .a .east) (a .b .east)

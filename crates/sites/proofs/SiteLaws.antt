@@ -8,14 +8,14 @@ use native.Mathlib.Omega.{arith}
 use lib.ListN.{getD, set, replicate}
 use borrow.Author.Tests.{eq-eqb, ne-eqb}
 use Rattle.stations.specs.Stations.{codeAt}
+use Rattle.standing.specs.Standing.{standAlike}
 use Rattle.forms.proofs.CountLaws.{first-most}
 use Rattle.chains.specs.Chains.{bears, firstBearer, slots, recordNumbers, leads, Chains}
 use Rattle.chains.specs.Seconds.{Seconds}
 use Rattle.chains.proofs.ChainLaws.{none-chained, is-leading, later-leads-none, out-leads-none, left-out}
 use Rattle.chains.proofs.SecondLaws.{no-seconds, none-apart, bearer-below, bearer-leads, first-apart, second-apart, second-out, second-led, second-kept, second-found}
-use Rattle.clashes.specs.Clashes.{standAlike}
-use Rattle.clashes.specs.Sites.{atSite, GoodTakesPart, firstElsewhere, Sites}
-use Rattle.clashes.proofs.SameLaws.{stand-classes}
+use Rattle.sites.specs.Sites.{atSite, GoodTakesPart, firstElsewhere, Sites}
+use Rattle.sites.proofs.ClassLaws.{stand-classes}
 
 -- Before any station no site is kept.
 pub no-sites : (file : List ℕ) (who : ℕ → Bool) → Sites file who (replicate slots 0) (replicate recordNumbers 0) (replicate recordNumbers 0) 0

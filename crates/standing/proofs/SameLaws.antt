@@ -17,16 +17,15 @@ use Rattle.distances.specs.Distances.{groundOf}
 use Rattle.station.specs.Places.{fieldsOf}
 use Rattle.files.specs.Files.{recordAt}
 use Rattle.stations.specs.Stations.{positionAt, groundAt}
-use Rattle.chains.specs.Seconds.{Classes}
-use Rattle.clashes.specs.Clashes.{sameCount, samePlace, standAlike}
+use Rattle.standing.specs.Standing.{sameCount, samePlace, standAlike}
 
 -- A count is the same as itself,
-count-same : (z : ℤ) → sameCount z z ≡ true
+pub count-same : (z : ℤ) → sameCount z z ≡ true
 count-same (pos n) = eq-eqb n n refl
 count-same (negsuc n) = eq-eqb n n refl
 
 -- and as no other.
-same-count : (a b : ℤ) → sameCount a b ≡ true → a ≡ b
+pub same-count : (a b : ℤ) → sameCount a b ≡ true → a ≡ b
 same-count (pos m) (pos n) e = ap pos (eqb-true m n e)
 same-count (pos m) (negsuc n) e = absurd (false≢true e)
 same-count (negsuc m) (pos n) e = absurd (false≢true e)
@@ -44,13 +43,13 @@ bits-same a b fa fb = by-case (sameCount a b) refl
     by-case false e = ne-eqb (ofZ w64 a) (ofZ w64 b) (λ q. other-count a b e (sym (toZ-ofZ fa) ∙ ap (λ (n : ℕ). toZ w64 n) q ∙ toZ-ofZ fb))
 
 -- A place is the same as itself,
-place-same : (p : Located) → samePlace p p ≡ true
+pub place-same : (p : Located) → samePlace p p ≡ true
 unfolding samePlace
 place-same (located.Bad wrong) = refl
 place-same (located.Filled p) = rw (count-same (p .east), count-same (p .north))
 
--- and one that is the same as another is the same as all that the other is,
-place-like : (x p q : Located) → samePlace p q ≡ true → samePlace x p ≡ samePlace x q
+-- and one that is the same as another is the same as all that the other is.
+pub place-like : (x p q : Located) → samePlace p q ≡ true → samePlace x p ≡ samePlace x q
 unfolding samePlace
 place-like (located.Bad wrong) (located.Bad other) (located.Bad last) e = refl
 place-like (located.Filled x) (located.Bad other) (located.Bad last) e = refl
@@ -61,18 +60,7 @@ place-like (located.Filled x) (located.Filled p) (located.Filled q) e =
     let both = and-eq-true-iff (sameCount (p .east) (q .east)) (sameCount (p .north) (q .north)) .0 e in
     rw (same-count (p .east) (q .east) (both .0), same-count (p .north) (q .north) (both .1))
 
--- so that standing alike cuts stations into classes,
-pub stand-classes : (file : List ℕ) → Classes (standAlike file)
-unfolding standAlike
-stand-classes file =
-    record {
-      itself = λ i. rw (place-same (positionAt file i), count-same (groundAt file i .0));
-      like = λ i j k e.
-          let both = and-eq-true-iff (samePlace (positionAt file j) (positionAt file k)) (sameCount (groundAt file j .0) (groundAt file k .0)) .0 e in
-          rw (place-like (positionAt file i) (positionAt file j) (positionAt file k) (both .0), same-count (groundAt file j .0) (groundAt file k .0) (both .1));
-    }
-
--- and stations with the same bytes for place and height stand alike.
+-- Stations with the same bytes for place and height stand alike.
 pub spelled-so : (file : List ℕ) (i k : ℕ) → take 15 (drop 51 (recordAt file i)) ≡ take 15 (drop 51 (recordAt file k)) → take 4 (drop 107 (recordAt file i)) ≡ take 4 (drop 107 (recordAt file k))
     → standAlike file i k ≡ true
 unfolding standAlike positionAt groundAt fieldsOf

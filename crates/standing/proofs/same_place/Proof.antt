@@ -1,8 +1,8 @@
--- `clashes::same_place` meets its contract: two that say none, or two positions.
-use Rattle.clashes.specs.Clashes.{samePlace}
+-- `standing::same_place` meets its contract: two that say none, or two positions.
+use Rattle.standing.specs.Standing.{samePlace}
 use borrow.Author.Needs.{needs}
-use Rattle.clashes.proofs.same_place.Statement.{statement}
-use Rattle.clashes.proofs.same_place.Tie as tie
+use Rattle.standing.proofs.same_place.Statement.{statement}
+use Rattle.standing.proofs.same_place.Tie as tie
 
 enum-told : tie.Need-enum-told
 enum-told c = search needs

@@ -1,4 +1,4 @@
--- `clashes::spelled_alike` meets its contract: place and height are parts of the two records.
+-- `standing::spelled_alike` meets its contract: place and height are parts of the two records.
 use denote.Ref.{now}
 use mathlib.Core.Path.{_≡_, sym, _∙_}
 use mathlib.Core.Bool.{true, false≢true}
@@ -11,10 +11,10 @@ use Rattle.columns.specs.Texts.{same}
 use Rattle.columns.proofs.SameLaws.{same-true}
 use Rattle.files.specs.Files.{recordAt}
 use Rattle.stations.proofs.StationLaws.{column-there}
-use Rattle.clashes.proofs.SameLaws.{spelled-so}
+use Rattle.standing.proofs.SameLaws.{spelled-so}
 use borrow.Author.Needs.{needs}
-use Rattle.clashes.proofs.spelled_alike.Statement.{statement}
-use Rattle.clashes.proofs.spelled_alike.Tie as tie
+use Rattle.standing.proofs.spelled_alike.Statement.{statement}
+use Rattle.standing.proofs.spelled_alike.Tie as tie
 
 record-in-requires : tie.Need-record-in-requires
 record-in-requires c κs = search needs
