@@ -1,11 +1,11 @@
--- `gathering::lines::hold` meets its contract: a full buffer stays as it was, and in any other the part is put behind what is held.
+-- `line_parts::hold` meets its contract: a full buffer stays as it was, and in any other the part is put behind what is held.
 use denote.Ref.{now}
 use native.Mathlib.Omega.{arith}
 use mathlib.Core.Path.{sym}
 use Rattle.gathering.proofs.PartLaws.{nothing-fits, part-size, copy-room, part-fits}
 use borrow.Author.Needs.{needs}
-use Rattle.gathering.proofs.lines.hold.Statement.{statement}
-use Rattle.gathering.proofs.lines.hold.Tie as tie
+use Rattle.line_parts.proofs.hold.Statement.{statement}
+use Rattle.line_parts.proofs.hold.Tie as tie
 
 returns : tie.Need-returns
 returns c =

@@ -1,8 +1,8 @@
--- `gathering::lines::gather` meets its contract.
+-- `line_gathering::gather` meets its contract.
 use Rattle.gathering.proofs.HoldLaws.{counted-with}
 use borrow.Author.Needs.{needs}
-use Rattle.gathering.proofs.lines.gather.Statement.{statement}
-use Rattle.gathering.proofs.lines.gather.Tie as tie
+use Rattle.line_gathering.proofs.gather.Statement.{statement}
+use Rattle.line_gathering.proofs.gather.Tie as tie
 
 count-requires : tie.Need-count-requires
 count-requires c κs = search needs

@@ -1,5 +1,5 @@
-// A text that came in, cut at its line feeds.
+// Where a line ends: a text that came in is cut at its line feeds.
 ghost use Rattle.gathering.specs.Promises.{LineEnded};
 
 // Where the first line of a text ends: behind its line feed, or where the text does.
 pub fn line_end(text: &[u8]) -> usize

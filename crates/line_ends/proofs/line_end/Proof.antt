@@ -1,9 +1,9 @@
--- `gathering::cutting::line_end` meets its contract.
+-- `line_ends::line_end` meets its contract.
 use denote.Ref.{now}
 use Rattle.gathering.proofs.CutLaws.{ends-behind, ends-with}
 use borrow.Author.Needs.{needs}
-use Rattle.gathering.proofs.cutting.line_end.Statement.{statement}
-use Rattle.gathering.proofs.cutting.line_end.Tie as tie
+use Rattle.line_ends.proofs.line_end.Statement.{statement}
+use Rattle.line_ends.proofs.line_end.Tie as tie
 
 find-requires : tie.Need-find-requires
 find-requires c κs = search needs

@@ -1,10 +1,10 @@
--- `gathering::lines::last_after` meets its contract.
+-- `line_parts::last_after` meets its contract.
 use mathlib.Core.Path.{_∙_}
 use borrow.Author.Tests.{eq-eqb, ne-eqb}
 use Rattle.gathering.specs.Gathering.{lastAfter}
 use borrow.Author.Needs.{needs}
-use Rattle.gathering.proofs.lines.last_after.Statement.{statement}
-use Rattle.gathering.proofs.lines.last_after.Tie as tie
+use Rattle.line_parts.proofs.last_after.Statement.{statement}
+use Rattle.line_parts.proofs.last_after.Tie as tie
 
 returns : tie.Need-returns
 unfolding lastAfter
