@@ -4,8 +4,8 @@ use Rattle.columns.specs.Texts.{bytes}
 use Rattle.numerals.specs.Numbers.{spellDigits}
 use Rattle.frequencies.specs.declared.Hertz.the-variants as hertz
 use Rattle.frequencies.specs.declared.Frequency.the-variants as frequency
-use Rattle.operator_counts.specs.declared.Hundredths.the-variants as hundredths
-use Rattle.operator_counts.specs.Hundredths.{stepOf, hundredthsOf}
+use Rattle.hundredths.specs.declared.Hundredths.the-variants as hundredths
+use Rattle.hundredths.specs.Hundredths.{stepOf, hundredthsOf}
 use Rattle.operator_pages.specs.Pages.{operatorRow}
 use Rattle.operator_numbers.specs.Frequencies.{digitsIn, inDigits, shortened, megahertz}
 use Rattle.desk_operators.specs.Rows.{spellHundredths, spellHead, spellRow}

@@ -3,8 +3,8 @@ use Prim.Native.Nat.{ℕ}
 use mathlib.Core.List.{List, _++_}
 use lib.ListN.{replicate}
 use Rattle.numerals.specs.Numbers.{spellWhole}
-use Rattle.operator_counts.specs.declared.Hundredths.{Hundredths}
-use Rattle.operator_counts.specs.declared.Hundredths.the-variants as hundredths
+use Rattle.hundredths.specs.declared.Hundredths.{Hundredths}
+use Rattle.hundredths.specs.declared.Hundredths.the-variants as hundredths
 use Rattle.operator_pages.specs.declared.OperatorRow.{OperatorRow}
 
 -- A row has forty bytes.

@@ -1,6 +1,6 @@
 // The library for callers in C and Rust, its call on the operators of a file, under a name with the prefix `desk_`.
 use basics::outcomes::refusal_number;
-use operator_counts::Hundredths;
+use hundredths::Hundredths;
 use operator_numbers::put_columns;
 use operator_pages::OperatorRow;
 use operator_pages::Page;

@@ -2,21 +2,16 @@
 use mathlib.Core.Path.{_≡_, refl}
 use mathlib.Core.Bool.{Bool, true, false, cond, _&&_, false≢true}
 use mathlib.Core.List.{List, [], _∷_, _++_}
-use Prim.Native.Nat.{ℕ, zero, suc, _+_, _-_, _*_, _/_, _%_, _^_, _≤_, _<_}
+use Prim.Native.Nat.{ℕ, zero, suc, _+_, _-_, _*_, _/_, _%_, _≤_, _<_}
 use native.Mathlib.Omega.{arith}
-use lib.Dec.{ltb, leb, eqb}
+use lib.Dec.{leb, eqb}
 use lib.ListN.{length, getD, take, drop}
-use lib.IntN.{pos}
-use borrow.Author.Tests.{eqb-true, leb-true, ltb-true}
+use borrow.Author.Tests.{eqb-true, leb-true}
 use Rattle.columns.specs.Sets.{isDigit}
 use Rattle.columns.specs.Texts.{each, every}
 use Rattle.columns.proofs.TextLaws.{and-split, and-both}
 use Rattle.numerals.specs.Numbers.{numberFrom, number, spellDigits, spellWhole}
-use Rattle.decimals.specs.Decimals.{decimalFits}
-use Rattle.frequencies.specs.Frequencies.{aboveZero, frequencyFits}
-use Rattle.frequencies.specs.declared.Hertz.{Hertz}
-use Rattle.frequencies.specs.declared.Hertz.the-variants as hertz
-use Rattle.frequencies.specs.declared.Frequency.the-variants as frequency
+use Rattle.frequencies.specs.Frequencies.{frequencyFits}
 use Rattle.frequencies.proofs.FrequencyColumns.{frequency-pair}
 use Rattle.basics.specs.Rules.{All}
 use Rattle.basics.proofs.RuleLaws.{all-hold, all-front, rule}
@@ -26,10 +21,10 @@ use Rattle.station.specs.Between.{betweenRules}
 use Rattle.station.specs.Codes.{valueOf, stationCode}
 use Rattle.files.specs.Files.{recordAt}
 use Rattle.stations.specs.Stations.{codeAt, referenceAt, operatorAt, transmitAt, fieldOf}
-use Rattle.operator_counts.specs.declared.Hundredths.{Hundredths}
+use Rattle.hundredths.specs.declared.Hundredths.{Hundredths}
+use Rattle.hundredths.specs.Hundredths.{hundredthsOf}
 use Rattle.operator_counts.specs.declared.Heard.{Heard}
 use Rattle.operator_counts.specs.declared.Heard.the-variants as heard
-use Rattle.operator_counts.specs.Hundredths.{stepOf, hundredthsOf}
 use Rattle.operator_counts.specs.Counts.{heardAt, operators}
 
 -- Places of a field that passes, from one on,
@@ -77,20 +72,6 @@ module _ (file : List ℕ) (k : ℕ) (good : codeAt file k ≡ 0) where
   pub transmit-fits : frequencyFits (transmitAt file k) ≡ true
   unfolding transmitAt fieldRules
   transmit-fits = frequency-pair .read (fieldOf file k 1) (fieldOf file k 2) (rule (fieldRules (fieldsOf (recordAt file k))) holding 1)
-
--- A frequency that has its places is one of ten digits at most.
-pub fits-below : (n : ℕ) (u : Hertz) → frequencyFits (frequency.Filled n u) ≡ true → n < 10 ^ 10
-unfolding frequencyFits
-fits-below n u e =
-    let h = and-split (decimalFits 5 5 false (pos n)) (aboveZero (pos n)) e in
-    ltb-true n (10 ^ 10) (and-split (ltb n (10 ^ 10)) true (h .0) .0)
-
--- Such a frequency in hundredths of a hertz is a number of 64 bits.
-pub step-fits : (n : ℕ) (u : Hertz) → n < 10 ^ 10 → n * stepOf u < 2 ^ 64
-unfolding stepOf
-step-fits n hertz.Kilo h = omega arith
-step-fits n hertz.Mega h = omega arith
-step-fits n hertz.Giga h = omega arith
 
 -- What two digits p are.
 pub record Digits (p : List ℕ) : Type 0 where

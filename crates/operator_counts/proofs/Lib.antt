@@ -1,5 +1,4 @@
 pub mod HeardLaws
 pub mod TableLaws
 pub mod TallyLaws
-pub mod ExtremeLaws
 pub mod SumLaws

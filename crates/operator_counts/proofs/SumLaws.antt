@@ -12,11 +12,11 @@ use Rattle.numerals.specs.Numbers.{number}
 use Rattle.forms.specs.Counting.{count}
 use Rattle.forms.proofs.CountLaws.{count-cong}
 use Rattle.stations.specs.Stations.{codeAt, operatorAt, transmitAt}
-use Rattle.operator_counts.specs.declared.Hundredths.{Hundredths}
+use Rattle.hundredths.specs.declared.Hundredths.{Hundredths}
+use Rattle.hundredths.specs.Hundredths.{extreme, hundredthsOf}
 use Rattle.operator_counts.specs.declared.Heard.{Heard}
 use Rattle.operator_counts.specs.declared.Heard.the-variants as heard
 use Rattle.operator_counts.specs.declared.Tally.{Tally}
-use Rattle.operator_counts.specs.Hundredths.{extreme, hundredthsOf}
 use Rattle.operator_counts.specs.Counts.{operators, heardAt, tallyOf, addedTo}
 use Rattle.operator_counts.proofs.HeardLaws.{heard-below}
 use Rattle.operator_counts.proofs.TallyLaws.{tally-nothing, tally-other, tally-own}

@@ -12,11 +12,11 @@ use lib.ListN.{getD, set}
 use Rattle.forms.specs.Counting.{count}
 use Rattle.forms.proofs.CountLaws.{count-most}
 use Rattle.files.specs.Files.{mostStations}
-use Rattle.operator_counts.specs.declared.Hundredths.{Hundredths}
+use Rattle.hundredths.specs.declared.Hundredths.{Hundredths}
+use Rattle.hundredths.specs.Hundredths.{filled, lowerOf, higherOf, withOne, extreme}
 use Rattle.operator_counts.specs.declared.Heard.{Heard}
 use Rattle.operator_counts.specs.declared.Heard.the-variants as heard
 use Rattle.operator_counts.specs.declared.Tally.{Tally}
-use Rattle.operator_counts.specs.Hundredths.{filled, lowerOf, higherOf, withOne, extreme}
 use Rattle.operator_counts.specs.Counts.{operators, isOf, sentBy, tallyOf, addedTo, noTally, tabled}
 use Rattle.operator_counts.proofs.TableLaws.{table-at, table-same, table-set}
 

@@ -6,12 +6,12 @@ use lib.Dec.{eqb}
 use Rattle.numerals.specs.Numbers.{number}
 use Rattle.forms.specs.Counting.{count}
 use Rattle.stations.specs.Stations.{codeAt, operatorAt, transmitAt}
-use Rattle.operator_counts.specs.declared.Hundredths.{Hundredths}
-use Rattle.operator_counts.specs.declared.Hundredths.the-variants as hundredths
+use Rattle.hundredths.specs.declared.Hundredths.{Hundredths}
+use Rattle.hundredths.specs.declared.Hundredths.the-variants as hundredths
+use Rattle.hundredths.specs.Hundredths.{hundredthsOf, filled, lowerOf, higherOf, withOne, extreme}
 use Rattle.operator_counts.specs.declared.Heard.{Heard}
 use Rattle.operator_counts.specs.declared.Heard.the-variants as heard
 use Rattle.operator_counts.specs.declared.Tally.{Tally}
-use Rattle.operator_counts.specs.Hundredths.{hundredthsOf, filled, lowerOf, higherOf, withOne, extreme}
 
 -- An operator's code is two digits, so that there are a hundred; an operator's number is what its digits say.
 abbrev pub operators : ℕ

@@ -1,25 +1,18 @@
 // What the stations of a file say of their operators: how many there are of each, and the lowest and the highest transmit frequency, in one pass.
-use frequencies::Frequency;
-use frequencies::Hertz;
+use hundredths::Hundredths;
+use hundredths::higher;
+use hundredths::hundredths_of;
+use hundredths::lower;
 use numerals::number_of;
 use stations::code;
 use stations::operator;
 use stations::transmit;
 ghost use mathlib.Core.Path.{_≡_};
-ghost use mathlib.Core.Bool.{true};
 ghost use Prim.Native.Nat.{_+_, _*_, _≤_, _<_};
 ghost use lib.ListN.{length};
-ghost use Rattle.frequencies.specs.Frequencies.{frequencyFits};
 ghost use Rattle.basics.specs.Fields.{recordLength};
 ghost use Rattle.files.specs.Files.{mostStations};
-ghost use Rattle.operator_counts.specs.Hundredths.{stepOf, hundredthsOf, lowerOf, higherOf};
 ghost use Rattle.operator_counts.specs.Counts.{heardAt, addedTo, tallyOf, tabled, operators};
-
-// A frequency in hundredths of a hertz, or none.
-pub enum Hundredths {
-    Blank,
-    Filled(u64),
-}
 
 // What is heard of a station: nothing where it breaks a rule, else its operator's number and its transmit frequency.
 pub enum Heard {
@@ -38,31 +31,6 @@ pub struct Tally {
 // How many operators there can be: each is two digits.
 pub const OPERATORS: usize = 100;
 
-// How many hundredths of a hertz a step of the field is.
-fn step_of(unit: Hertz) -> u64
-    ensures { λ r. ⌜ r ≡ stepOf unit ⌝ }
-{
-    match unit {
-        Hertz::Kilo => 1,
-        Hertz::Mega => 1000,
-        Hertz::Giga => 1000000,
-    }
-}
-
-// A frequency that can stand, in hundredths of a hertz.
-fn hundredths_of(v: Frequency) -> Hundredths
-    requires { ⌜ frequencyFits v ≡ true ⌝ }
-    ensures { λ r. ⌜ r ≡ hundredthsOf v ⌝ }
-{
-    match v {
-        Frequency::Blank => Hundredths::Blank,
-        Frequency::Filled(n, unit) => {
-            let step = step_of(unit);
-            Hundredths::Filled(n * step)
-        }
-    }
-}
-
 // What is heard of station k.
 fn heard_of(file: &[u8], k: usize) -> Heard
     requires { ⌜ recordLength * k + recordLength ≤ length (now file) ⌝ }
@@ -74,36 +42,6 @@ fn heard_of(file: &[u8], k: usize) -> Heard
     let c = number_of(operator(file, k)) as usize;
     let frequency = transmit(file, k);
     Heard::Station(c, hundredths_of(frequency))
-}
-
-// The lower of v and a frequency that there may be.
-fn lower(v: u64, a: Hundredths) -> Hundredths
-    ensures { λ r. ⌜ r ≡ lowerOf v a ⌝ }
-{
-    match a {
-        Hundredths::Blank => Hundredths::Filled(v),
-        Hundredths::Filled(u) => {
-            if v < u {
-                return Hundredths::Filled(v);
-            }
-            Hundredths::Filled(u)
-        }
-    }
-}
-
-// The higher of v and a frequency that there may be.
-fn higher(v: u64, a: Hundredths) -> Hundredths
-    ensures { λ r. ⌜ r ≡ higherOf v a ⌝ }
-{
-    match a {
-        Hundredths::Blank => Hundredths::Filled(v),
-        Hundredths::Filled(u) => {
-            if u < v {
-                return Hundredths::Filled(v);
-            }
-            Hundredths::Filled(u)
-        }
-    }
 }
 
 // A tally and one station more, with its transmit frequency.

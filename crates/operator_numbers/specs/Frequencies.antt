@@ -5,8 +5,8 @@ use mathlib.Core.List.{List, [], _++_}
 use lib.Dec.{ltb, eqb}
 use Rattle.columns.specs.Texts.{bytes}
 use Rattle.numerals.specs.Numbers.{spellWhole}
-use Rattle.operator_counts.specs.declared.Hundredths.{Hundredths}
-use Rattle.operator_counts.specs.declared.Hundredths.the-variants as hundredths
+use Rattle.hundredths.specs.declared.Hundredths.{Hundredths}
+use Rattle.hundredths.specs.declared.Hundredths.the-variants as hundredths
 use Rattle.operator_numbers.specs.declared.Fraction.{Fraction}
 
 -- How many digits a number has, where they are k + 1 at most.

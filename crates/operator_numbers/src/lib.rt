@@ -1,6 +1,6 @@
 // Numbers and frequencies as people read them, put into the lent bytes behind what stands there already.
+use hundredths::Hundredths;
 use numeral_writing::put_whole;
-use operator_counts::Hundredths;
 use printing::pieces::put_text;
 ghost use mathlib.Core.Path.{_≡_};
 ghost use Prim.Native.Nat.{_+_, _≤_};

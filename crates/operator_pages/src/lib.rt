@@ -3,7 +3,7 @@ use basics::Outcome;
 use basics::outcomes::is_done;
 use files::lengths::check_file;
 use files::lengths::stations_in;
-use operator_counts::Hundredths;
+use hundredths::Hundredths;
 use operator_counts::OPERATORS;
 use operator_counts::Tally;
 use operator_counts::tallies;

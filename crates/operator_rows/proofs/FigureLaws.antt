@@ -12,10 +12,10 @@ use lib.Dec.{eqb}
 use lib.ListN.{length, getD, length-append, List·getD-append}
 use lib.Seq.{getD-at}
 use Rattle.files.specs.Files.{stations}
+use Rattle.hundredths.specs.Hundredths.{lowerOf, higherOf}
+use Rattle.hundredths.proofs.ExtremeLaws.{First, AtMost, AtLeast, lowest-is, highest-is}
 use Rattle.operator_counts.specs.declared.Tally.{Tally}
-use Rattle.operator_counts.specs.Hundredths.{lowerOf, higherOf}
 use Rattle.operator_counts.specs.Counts.{operators, heardAt, sentBy, tallyOf}
-use Rattle.operator_counts.proofs.ExtremeLaws.{First, AtMost, AtLeast, lowest-is, highest-is}
 use Rattle.operator_pages.specs.declared.OperatorRow.{OperatorRow}
 use Rattle.operator_pages.specs.Pages.{operatorRow, rowIfAny, rowsBelow, pageOf}
 use Rattle.operator_pages.specs.Calls.{noRow}

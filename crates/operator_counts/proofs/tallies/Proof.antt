@@ -2,8 +2,8 @@
 use denote.Ref.{now}
 use mathlib.Core.Path.{_≡_, refl, sym, _∙_}
 use Prim.Native.Nat.{_+_, _-_, _≤_, zero-le}
+use Rattle.hundredths.specs.Hundredths.{extreme}
 use Rattle.operator_counts.specs.declared.Heard.the-variants.{Station}
-use Rattle.operator_counts.specs.Hundredths.{extreme}
 use Rattle.operator_counts.specs.Counts.{operators, heardAt, tallyOf, tabled}
 use Rattle.operator_counts.proofs.HeardLaws.{heard-below}
 use Rattle.operator_counts.proofs.TallyLaws.{table-nothing, tally-room, table-station}

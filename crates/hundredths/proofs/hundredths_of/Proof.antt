@@ -1,13 +1,13 @@
--- `operator_counts::hundredths_of` meets its contract: steps of the unit.
+-- `hundredths::hundredths_of` meets its contract: steps of the unit.
 use mathlib.Core.Path.{_≡_, sym, ap, _∙_}
 use mathlib.Core.Bool.{true}
 use Rattle.frequencies.specs.Frequencies.{frequencyFits}
 use Rattle.frequencies.specs.declared.Frequency.the-variants as frequency
-use Rattle.operator_counts.specs.Hundredths.{hundredthsOf}
-use Rattle.operator_counts.proofs.HeardLaws.{fits-below, step-fits}
+use Rattle.hundredths.specs.Hundredths.{hundredthsOf}
+use Rattle.hundredths.proofs.StepLaws.{fits-below, step-fits}
 use borrow.Author.Needs.{needs}
-use Rattle.operator_counts.proofs.hundredths_of.Statement.{statement}
-use Rattle.operator_counts.proofs.hundredths_of.Tie as tie
+use Rattle.hundredths.proofs.hundredths_of.Statement.{statement}
+use Rattle.hundredths.proofs.hundredths_of.Tie as tie
 
 enum-told : tie.Need-enum-told
 enum-told c = search needs

@@ -1,8 +1,8 @@
--- `operator_counts::step_of` meets its contract, unit by unit.
-use Rattle.operator_counts.specs.Hundredths.{stepOf}
+-- `hundredths::step_of` meets its contract, unit by unit.
+use Rattle.hundredths.specs.Hundredths.{stepOf}
 use borrow.Author.Needs.{needs}
-use Rattle.operator_counts.proofs.step_of.Statement.{statement}
-use Rattle.operator_counts.proofs.step_of.Tie as tie
+use Rattle.hundredths.proofs.step_of.Statement.{statement}
+use Rattle.hundredths.proofs.step_of.Tie as tie
 
 enum-told : tie.Need-enum-told
 enum-told c = search needs

@@ -6,8 +6,8 @@ use Rattle.frequencies.specs.declared.Hertz.{Hertz}
 use Rattle.frequencies.specs.declared.Hertz.the-variants as hertz
 use Rattle.frequencies.specs.declared.Frequency.{Frequency}
 use Rattle.frequencies.specs.declared.Frequency.the-variants as frequency
-use Rattle.operator_counts.specs.declared.Hundredths.{Hundredths}
-use Rattle.operator_counts.specs.declared.Hundredths.the-variants as hundredths
+use Rattle.hundredths.specs.declared.Hundredths.{Hundredths}
+use Rattle.hundredths.specs.declared.Hundredths.the-variants as hundredths
 
 -- One kHz step of the field is 1, a MHz step 1,000, a GHz step 1,000,000.
 unfoldable pub stepOf : Hertz → ℕ

@@ -7,9 +7,9 @@ use native.Mathlib.Nat.{eq-or-lt-of-le, le-refl}
 use native.Mathlib.Omega.{arith}
 use borrow.Author.Tests.{ltb-true, ltb-false}
 use lib.Dec.{ltb}
-use Rattle.operator_counts.specs.declared.Hundredths.{Hundredths}
-use Rattle.operator_counts.specs.declared.Hundredths.the-variants as hundredths
-use Rattle.operator_counts.specs.Hundredths.{lowerOf, higherOf, withOne, extreme}
+use Rattle.hundredths.specs.declared.Hundredths.{Hundredths}
+use Rattle.hundredths.specs.declared.Hundredths.the-variants as hundredths
+use Rattle.hundredths.specs.Hundredths.{lowerOf, higherOf, withOne, extreme}
 
 -- One of the frequencies at 1 to n is m.
 pub record Among (f : ℕ → Hundredths) (n m : ℕ) : Type 0 where
