@@ -1,3 +1,1 @@
-pub mod FilledLaws
-pub mod PartLaws
 pub mod Unique

@@ -1,53 +1,22 @@
 // The code of a station's record, read in place: the first broken rule, 1 to 30 and then 31 to 39.
+use asked_fields::blank_where;
+use asked_fields::filled_where;
 use basics::Outcome;
 use basics::outcomes::judged;
 use basics::rules::first_broken;
-use between::is_repeater_name;
-use between::is_round;
 use between::never_both;
-use columns::texts::equal;
 use columns::texts::is_blank_stepwise;
 use distances::read_radius;
 use field_judging::field_code;
+use last_judging::last_between;
 ghost use mathlib.Core.Path.{_≡_};
 ghost use lib.ListN.{length};
-ghost use mathlib.Core.Bool.{not};
-ghost use Rattle.columns.specs.Texts.{blank};
 ghost use Rattle.basics.specs.Rules.{All, firstBroken};
 ghost use Rattle.station.specs.Places.{fieldsOf};
-ghost use Rattle.station_groups.specs.Asked.{roundAntenna, never};
-ghost use Rattle.station.specs.Groups.{firstBetween, lastBetween};
+ghost use Rattle.station.specs.Groups.{firstBetween};
 ghost use Rattle.station.specs.Codes.{valueOf, stationCode};
 ghost use Rattle.station.specs.Rules.{fieldRules};
 ghost use Rattle.judging.specs.Promises.{StationChecked};
-
-// Not all spaces.
-fn is_filled(s: &[u8]) -> bool
-    ensures { λ r. ⌜ r ≡ not (blank (now (s .entry))) ⌝ }
-{
-    !is_blank_stepwise(s)
-}
-
-// A field is filled where x holds; else it is not looked at.
-fn filled_where(x: bool, s: &[u8]) -> bool
-    ensures { λ r. ⌜ r ≡ never x (blank (now (s .entry))) ⌝ }
-{
-    if x { is_filled(s) } else { true }
-}
-
-// A field is blank where x holds; else it is not looked at.
-fn blank_where(x: bool, s: &[u8]) -> bool
-    ensures { λ r. ⌜ r ≡ never x (not (blank (now (s .entry)))) ⌝ }
-{
-    if x { is_blank_stepwise(s) } else { true }
-}
-
-// A type of antenna is the one of no direction where x holds; else it is not looked at.
-fn round_where(x: bool, s: &[u8]) -> bool
-    ensures { λ r. ⌜ r ≡ never x (not (roundAntenna (now (s .entry)))) ⌝ }
-{
-    if x { is_round(s) } else { true }
-}
 
 // Rules 31 to 34, where 1 to 30 hold.
 fn first_between(rec: &[u8]) -> u8
@@ -64,23 +33,6 @@ fn first_between(rec: &[u8]) -> u8
         blank_where(mobile, &rec[91..96]),
     ];
     first_broken(&rules, 31)
-}
-
-// Rules 35 to 39, where 1 to 30 hold.
-fn last_between(rec: &[u8]) -> u8
-    requires { ⌜ (length (now rec) ≡ 219) × All (fieldRules (fieldsOf (now rec))) ⌝ }
-    ensures { λ r. ⌜ r ≡ firstBroken 35 (lastBetween (valueOf (now (rec .entry)))) ⌝ }
-{
-    let mobile = rec[13] == b'M';
-    let repeater = equal(b"FL", &rec[13..15]);
-    let rules = [
-        round_where(is_blank_stepwise(&rec[91..96]), &rec[111..118]),
-        round_where(is_blank_stepwise(&rec[96..101]), &rec[118..125]),
-        blank_where(mobile, &rec[71..75]),
-        filled_where(is_filled(&rec[125..136]), &rec[103..107]),
-        never_both(repeater, !is_repeater_name(&rec[28..48])),
-    ];
-    first_broken(&rules, 35)
 }
 
 // The first broken rule of a record, 0 where none is.

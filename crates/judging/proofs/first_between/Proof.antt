@@ -14,8 +14,8 @@ use Rattle.station.specs.Groups.{firstBetween}
 use Rattle.station.specs.Rules.{fieldRules}
 use Rattle.station.specs.Values.{stationOf}
 use Rattle.station.specs.Codes.{valueOf}
-use Rattle.judging.proofs.FilledLaws.{frequency-given, tenths-given}
-use Rattle.judging.proofs.PartLaws.{head-field}
+use Rattle.asked_fields.proofs.FilledLaws.{frequency-given, tenths-given}
+use Rattle.asked_fields.proofs.PartLaws.{head-field}
 use native.Mathlib.Omega.{arith}
 use borrow.Author.Needs.{needs}
 use Rattle.judging.proofs.first_between.Statement.{statement}

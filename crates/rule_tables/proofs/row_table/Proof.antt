@@ -14,7 +14,7 @@ use Rattle.station_groups.specs.Asked.{roundAntenna}
 use Rattle.station.specs.Between.{betweenRules}
 use Rattle.station.specs.Values.{stationOf}
 use Rattle.station.specs.Codes.{valueOf}
-use Rattle.judging.proofs.FilledLaws.{frequency-given, tenths-given, height-given}
+use Rattle.asked_fields.proofs.FilledLaws.{frequency-given, tenths-given, height-given}
 use Rattle.facts.specs.Facts.{factOf}
 use Rattle.walking.specs.Walks.{firstRow}
 use Rattle.rule_tables.specs.Told.{RowsTell}

@@ -6,7 +6,7 @@ use denote.Ref.{now}
 use Rattle.station.specs.Places.{fieldsOf}
 use Rattle.station.specs.Values.{stationOf}
 use Rattle.station.specs.Codes.{valueOf}
-use Rattle.judging.proofs.PartLaws.{head-field}
+use Rattle.asked_fields.proofs.PartLaws.{head-field}
 use native.Mathlib.Omega.{arith}
 use borrow.Author.Needs.{needs}
 use Rattle.reading.proofs.typed.channel_in.Statement.{statement}

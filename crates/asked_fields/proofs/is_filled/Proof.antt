@@ -1,9 +1,9 @@
--- `judging::is_filled` meets its contract.
+-- `asked_fields::is_filled` meets its contract.
 use mathlib.Core.Path.{ap}
 use mathlib.Core.Bool.{not}
 use borrow.Author.Needs.{needs}
-use Rattle.judging.proofs.is_filled.Statement.{statement}
-use Rattle.judging.proofs.is_filled.Tie as tie
+use Rattle.asked_fields.proofs.is_filled.Statement.{statement}
+use Rattle.asked_fields.proofs.is_filled.Tie as tie
 
 is-blank-stepwise-requires : tie.Need-is-blank-stepwise-requires
 is-blank-stepwise-requires c κs = search needs

@@ -1,8 +1,8 @@
--- `judging::blank_where` meets its contract.
+-- `asked_fields::blank_where` meets its contract.
 use mathlib.Core.Bool.{Bool·not-not}
 use borrow.Author.Needs.{needs}
-use Rattle.judging.proofs.blank_where.Statement.{statement}
-use Rattle.judging.proofs.blank_where.Tie as tie
+use Rattle.asked_fields.proofs.blank_where.Statement.{statement}
+use Rattle.asked_fields.proofs.blank_where.Tie as tie
 
 is-blank-stepwise-requires : tie.Need-is-blank-stepwise-requires
 is-blank-stepwise-requires c κs = search needs

@@ -1,8 +1,8 @@
--- `judging::round_where` meets its contract.
+-- `asked_fields::round_where` meets its contract.
 use mathlib.Core.Bool.{Bool·not-not}
 use borrow.Author.Needs.{needs}
-use Rattle.judging.proofs.round_where.Statement.{statement}
-use Rattle.judging.proofs.round_where.Tie as tie
+use Rattle.asked_fields.proofs.round_where.Statement.{statement}
+use Rattle.asked_fields.proofs.round_where.Tie as tie
 
 is-round-requires : tie.Need-is-round-requires
 is-round-requires c κs = search needs

@@ -1,7 +1,7 @@
--- `judging::filled_where` meets its contract.
+-- `asked_fields::filled_where` meets its contract.
 use borrow.Author.Needs.{needs}
-use Rattle.judging.proofs.filled_where.Statement.{statement}
-use Rattle.judging.proofs.filled_where.Tie as tie
+use Rattle.asked_fields.proofs.filled_where.Statement.{statement}
+use Rattle.asked_fields.proofs.filled_where.Tie as tie
 
 is-filled-requires : tie.Need-is-filled-requires
 is-filled-requires c κs = search needs

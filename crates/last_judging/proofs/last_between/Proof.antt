@@ -1,4 +1,4 @@
--- `judging::last_between` meets its contract: where a field keeps its rule, filled is not blank.
+-- `last_judging::last_between` meets its contract: where a field keeps its rule, filled is not blank.
 use mathlib.Core.Path.{_≡_, _∙_}
 use mathlib.Core.Bool.{true, false, Bool·not-not}
 use Prim.Native.Nat.{ℕ, _-_}
@@ -14,12 +14,12 @@ use Rattle.station.specs.Groups.{lastBetween}
 use Rattle.station.specs.Rules.{fieldRules}
 use Rattle.station.specs.Values.{stationOf}
 use Rattle.station.specs.Codes.{valueOf}
-use Rattle.judging.proofs.FilledLaws.{frequency-given, tenths-given, height-given}
-use Rattle.judging.proofs.PartLaws.{head-field}
+use Rattle.asked_fields.proofs.FilledLaws.{frequency-given, tenths-given, height-given}
+use Rattle.asked_fields.proofs.PartLaws.{head-field}
 use native.Mathlib.Omega.{arith}
 use borrow.Author.Needs.{needs}
-use Rattle.judging.proofs.last_between.Statement.{statement}
-use Rattle.judging.proofs.last_between.Tie as tie
+use Rattle.last_judging.proofs.last_between.Statement.{statement}
+use Rattle.last_judging.proofs.last_between.Tie as tie
 
 shared-slice-read-mobile : tie.Need-shared-slice-read-mobile
 shared-slice-read-mobile c = search needs
