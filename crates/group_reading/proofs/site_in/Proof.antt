@@ -1,4 +1,4 @@
--- `reading::typed::site_in` meets its contract: each field is read from its own columns, and rule 11 lets 4C be read.
+-- `group_reading::site_in` meets its contract: each field is read from its own columns, and rule 11 lets 4C be read.
 use Rattle.columns.proofs.TextLaws.{text-there}
 use native.Mathlib.Omega.{arith}
 use lib.ListN.{length}
@@ -11,8 +11,8 @@ use Rattle.station.specs.Places.{fieldsOf}
 use Rattle.station.specs.Values.{stationOf}
 use Rattle.station.specs.Codes.{valueOf}
 use borrow.Author.Needs.{needs}
-use Rattle.reading.proofs.typed.site_in.Statement.{statement}
-use Rattle.reading.proofs.typed.site_in.Tie as tie
+use Rattle.group_reading.proofs.site_in.Statement.{statement}
+use Rattle.group_reading.proofs.site_in.Tie as tie
 
 sub-day-in : tie.Need-sub-day-in
 sub-day-in c = search needs

@@ -1,4 +1,4 @@
--- `reading::typed::antenna_in` meets its contract: each field is read from its own columns.
+-- `group_reading::antenna_in` meets its contract: each field is read from its own columns.
 use Rattle.columns.proofs.TextLaws.{text-there}
 use native.Mathlib.Omega.{arith}
 use denote.Ref.{now}
@@ -8,8 +8,8 @@ use Rattle.station.specs.Places.{fieldsOf}
 use Rattle.station.specs.Values.{stationOf}
 use Rattle.station.specs.Codes.{valueOf}
 use borrow.Author.Needs.{needs}
-use Rattle.reading.proofs.typed.antenna_in.Statement.{statement}
-use Rattle.reading.proofs.typed.antenna_in.Tie as tie
+use Rattle.group_reading.proofs.antenna_in.Statement.{statement}
+use Rattle.group_reading.proofs.antenna_in.Tie as tie
 
 sub-text2 : tie.Need-sub-text2
 sub-text2 c = search needs
