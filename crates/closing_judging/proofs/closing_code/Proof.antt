@@ -1,10 +1,10 @@
--- `header_judging::closing_code` meets its contract: each test of the code is a rule of the group.
+-- `closing_judging::closing_code` meets its contract: each test of the code is a rule of the group.
 use mathlib.Core.Path.{_∙_}
 use Rattle.header.specs.Places.{headerFields}
 use Rattle.header.specs.Rules.{headerRules}
 use borrow.Author.Needs.{needs}
-use Rattle.header_judging.proofs.closing_code.Statement.{statement}
-use Rattle.header_judging.proofs.closing_code.Tie as tie
+use Rattle.closing_judging.proofs.closing_code.Statement.{statement}
+use Rattle.closing_judging.proofs.closing_code.Tie as tie
 
 sub-is-left-text : tie.Need-sub-is-left-text
 sub-is-left-text c = search needs

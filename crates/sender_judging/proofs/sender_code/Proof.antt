@@ -1,11 +1,11 @@
--- `header_judging::sender_code` meets its contract: each test of the code is a rule of the group.
+-- `sender_judging::sender_code` meets its contract: each test of the code is a rule of the group.
 use mathlib.Core.Path.{_∙_}
-use Rattle.header_judging.proofs.LetterLaws.{one-letter}
+use Rattle.sender_judging.proofs.LetterLaws.{one-letter}
 use Rattle.header.specs.Places.{headerFields}
 use Rattle.header.specs.Rules.{headerRules}
 use borrow.Author.Needs.{needs}
-use Rattle.header_judging.proofs.sender_code.Statement.{statement}
-use Rattle.header_judging.proofs.sender_code.Tie as tie
+use Rattle.sender_judging.proofs.sender_code.Statement.{statement}
+use Rattle.sender_judging.proofs.sender_code.Tie as tie
 
 sub-is-whole-filled : tie.Need-sub-is-whole-filled
 sub-is-whole-filled c = search needs
