@@ -1,17 +1,11 @@
--- The flaws of a typed station in the five groups in which the code finds them. Nothing is meant here that the table does not say.
+-- The flaws of a typed station in the groups in which the code finds them; those of channel and antenna stand with their code. Nothing is meant here that the table does not say.
 use mathlib.Core.List.{List}
 use Rattle.flaw_parts.specs.Parts.{typedFlaws}
 use Rattle.flaws.specs.declared.Flaw.{Flaw}
-use Rattle.station_groups.specs.Members.{rows, channelValues, siteValues, emissionValues, antennaValues, coordinationValues}
-use Rattle.station_groups.specs.declared.Channel.{Channel}
+use Rattle.station_groups.specs.Members.{rows, siteValues, emissionValues, coordinationValues}
 use Rattle.station_groups.specs.declared.Site.{Site}
 use Rattle.station_groups.specs.declared.Emission.{Emission}
-use Rattle.station_groups.specs.declared.Antenna.{Antenna}
 use Rattle.station_groups.specs.declared.Coordination.{Coordination}
-
--- Channel, rows 1 to 7.
-unfoldable pub channelFlaws : Channel → List Flaw
-channelFlaws s = typedFlaws (rows 1 7) (channelValues s tt)
 
 -- Site, rows 8 to 13.
 unfoldable pub siteFlaws : Site → List Flaw
@@ -20,10 +14,6 @@ siteFlaws s = typedFlaws (rows 8 13) (siteValues s tt)
 -- Emission, rows 14 to 18.
 unfoldable pub emissionFlaws : Emission → List Flaw
 emissionFlaws s = typedFlaws (rows 14 18) (emissionValues s tt)
-
--- Antenna, rows 19 to 23.
-unfoldable pub antennaFlaws : Antenna → List Flaw
-antennaFlaws s = typedFlaws (rows 19 23) (antennaValues s tt)
 
 -- Coordination, rows 24 to 30.
 unfoldable pub coordinationFlaws : Coordination → List Flaw

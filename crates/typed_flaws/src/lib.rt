@@ -1,6 +1,5 @@
 // What is wrong with a typed station: its first broken code, and the flaw of the one value that the code names.
 use days::dates::fits_day;
-use distances::fits_ground;
 use distances::fits_height;
 use distances::fits_radius;
 use flaws::Flaw;
@@ -10,32 +9,25 @@ use number_flaws::range_flaw;
 use position_writing::fits_position;
 use station::Station;
 use station::typed::typed_code;
-use station_groups::Antenna;
-use station_groups::Channel;
 use station_groups::Coordination;
 use station_groups::Emission;
 use station_groups::Site;
-use symbol_flaws::antenna_flaw;
 use symbol_flaws::byte_flaw;
-use symbol_flaws::class_flaw;
 use symbol_flaws::country_flaw;
 use symbol_flaws::emission_flaw;
 use symbol_flaws::name_flaw;
-use symbol_flaws::polarisation_flaw;
 use symbol_flaws::reference_flaw;
 use symbol_flaws::remarks_flaw;
-use symbol_flaws::service_flaw;
-use symbol_flaws::users_flaw;
 use symbols::is_basis;
-use symbols::is_carrier;
-use symbols::is_category;
 use symbols::is_status;
 use tenths::fits_tenths;
+use typed_antenna_flaws::typed_antenna_flaw;
+use typed_channel_flaws::typed_channel_flaw;
 ghost use mathlib.Core.Path.{_≡_};
 ghost use Prim.Native.Nat.{_-_, _≤_};
 ghost use lib.ListN.{getD};
 ghost use Rattle.flaws.specs.declared.Flaw.the-variants as flaw;
-ghost use Rattle.typed_flaws.specs.Groups.{channelFlaws, siteFlaws, emissionFlaws, antennaFlaws, coordinationFlaws};
+ghost use Rattle.typed_flaws.specs.Groups.{siteFlaws, emissionFlaws, coordinationFlaws};
 ghost use Rattle.typed_flaws.specs.Calls.{flawTyped};
 ghost use Rattle.typed_flaws.specs.Promises.{TypedStationExplained};
 
@@ -43,27 +35,6 @@ ghost use Rattle.typed_flaws.specs.Promises.{TypedStationExplained};
 pub struct TypedExplained {
     pub code: u8,
     pub flaw: Flaw,
-}
-
-// Codes 1 to 7; a typed unit always has its letter.
-fn typed_channel_flaw(s: Channel, code: u8) -> Flaw
-    requires { ⌜ 1 ≤ code ⌝ }
-    ensures { λ r. ⌜ r ≡ getD (channelFlaws s) (code - 1) flaw.Between ⌝ }
-{
-    let transmit = s.transmit;
-    let class = s.class;
-    let service = s.service;
-    let users = s.users;
-    match code {
-        1 => range_flaw(fits_frequency(transmit)),
-        2 => Flaw::None,
-        3 => byte_flaw(is_category(s.category)),
-        4 => class_flaw(&class),
-        5 => service_flaw(&service),
-        6 => users_flaw(&users),
-        7 => byte_flaw(is_carrier(s.carrier)),
-        _ => Flaw::Between,
-    }
 }
 
 // Codes 8 to 13.
@@ -101,25 +72,6 @@ fn typed_emission_flaw(s: Emission, code: u8) -> Flaw
         16 => byte_flaw(is_basis(s.basis)),
         17 => range_flaw(fits_tenths(Format::Azimuth, azimuth)),
         18 => range_flaw(fits_tenths(Format::Elevation, elevation)),
-        _ => Flaw::Between,
-    }
-}
-
-// Codes 19 to 23.
-fn typed_antenna_flaw(s: Antenna, code: u8) -> Flaw
-    requires { ⌜ 19 ≤ code ⌝ }
-    ensures { λ r. ⌜ r ≡ getD (antennaFlaws s) (code - 19) flaw.Between ⌝ }
-{
-    let polarisation = s.polarisation;
-    let gain = s.gain;
-    let horizontal = s.horizontal;
-    let vertical = s.vertical;
-    match code {
-        19 => polarisation_flaw(&polarisation),
-        20 => range_flaw(fits_tenths(Format::Gain, gain)),
-        21 => range_flaw(fits_ground(s.ground)),
-        22 => antenna_flaw(&horizontal),
-        23 => antenna_flaw(&vertical),
         _ => Flaw::Between,
     }
 }

@@ -4,7 +4,9 @@ use mathlib.Core.Path.{refl, _∙_}
 use mathlib.Core.List.{[], _++_}
 use native.Mathlib.Omega.{arith}
 use Rattle.flaw_parts.proofs.CodeLaws.{past, coded, of-group, of-last}
-use Rattle.typed_flaws.specs.Groups.{channelFlaws, siteFlaws, emissionFlaws, antennaFlaws, coordinationFlaws}
+use Rattle.typed_channel_flaws.specs.Groups.{channelFlaws}
+use Rattle.typed_antenna_flaws.specs.Groups.{antennaFlaws}
+use Rattle.typed_flaws.specs.Groups.{siteFlaws, emissionFlaws, coordinationFlaws}
 use Rattle.typed_flaws.specs.Calls.{flawTyped}
 use borrow.Author.Needs.{needs}
 use Rattle.typed_flaws.proofs.flaw_typed.Statement.{statement}

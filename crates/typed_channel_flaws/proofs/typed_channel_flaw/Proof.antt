@@ -1,4 +1,4 @@
--- `typed_flaws::typed_channel_flaw` meets its contract, code by code.
+-- `typed_channel_flaws::typed_channel_flaw` meets its contract, code by code.
 use Prim.Native.Nat.{_-_, _≤_}
 use mathlib.Core.Path.{_≡_, refl, sym, ap, _∙_}
 use mathlib.Core.Bool.{cond}
@@ -9,10 +9,10 @@ use Rattle.fields.specs.Table.{fitsAt}
 use Rattle.flaws.specs.Flaws.{ranged}
 use Rattle.flaws.specs.declared.Flaw.the-variants as flaw
 use Rattle.flaw_parts.proofs.CodeLaws.{past, coded, byte-alone}
-use Rattle.typed_flaws.specs.Groups.{channelFlaws}
+use Rattle.typed_channel_flaws.specs.Groups.{channelFlaws}
 use borrow.Author.Needs.{needs}
-use Rattle.typed_flaws.proofs.typed_channel_flaw.Statement.{statement}
-use Rattle.typed_flaws.proofs.typed_channel_flaw.Tie as tie
+use Rattle.typed_channel_flaws.proofs.typed_channel_flaw.Statement.{statement}
+use Rattle.typed_channel_flaws.proofs.typed_channel_flaw.Tie as tie
 
 fits-frequency-requires : tie.Need-fits-frequency-requires
 fits-frequency-requires c κs = search needs

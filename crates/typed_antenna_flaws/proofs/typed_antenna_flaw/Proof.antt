@@ -1,4 +1,4 @@
--- `typed_flaws::typed_antenna_flaw` meets its contract, code by code.
+-- `typed_antenna_flaws::typed_antenna_flaw` meets its contract, code by code.
 use Prim.Native.Nat.{_-_, _≤_}
 use mathlib.Core.Path.{_≡_, refl, sym, ap, _∙_}
 use mathlib.Core.Bool.{cond}
@@ -9,10 +9,10 @@ use Rattle.fields.specs.Table.{fitsAt}
 use Rattle.flaws.specs.Flaws.{ranged}
 use Rattle.flaws.specs.declared.Flaw.the-variants as flaw
 use Rattle.flaw_parts.proofs.CodeLaws.{past, coded}
-use Rattle.typed_flaws.specs.Groups.{antennaFlaws}
+use Rattle.typed_antenna_flaws.specs.Groups.{antennaFlaws}
 use borrow.Author.Needs.{needs}
-use Rattle.typed_flaws.proofs.typed_antenna_flaw.Statement.{statement}
-use Rattle.typed_flaws.proofs.typed_antenna_flaw.Tie as tie
+use Rattle.typed_antenna_flaws.proofs.typed_antenna_flaw.Statement.{statement}
+use Rattle.typed_antenna_flaws.proofs.typed_antenna_flaw.Tie as tie
 
 slice-aggregate-polarisation-flaw : tie.Need-slice-aggregate-polarisation-flaw
 slice-aggregate-polarisation-flaw c = search needs
