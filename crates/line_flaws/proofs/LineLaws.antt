@@ -10,7 +10,8 @@ use Rattle.flaws.specs.declared.Flaw.{Flaw}
 use Rattle.flaws.specs.declared.Flaw.the-variants as flaw
 use Rattle.station.specs.Places.{stationPlaces}
 use Rattle.station.specs.Calls.{readOutcome, readStation}
-use Rattle.station_flaws.specs.Calls.{recordFlaw, flawOfReading}
+use Rattle.coordination_flaws.specs.Flaws.{recordFlaw}
+use Rattle.station_flaws.specs.Calls.{flawOfReading}
 use Rattle.semicolons.specs.Fields.{noneLonger}
 use Rattle.semicolons.specs.Lines.{lineFields, isLine, recordOf}
 use Rattle.lists.specs.Calls.{lineOutcome}

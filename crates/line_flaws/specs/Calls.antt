@@ -3,7 +3,7 @@ use Prim.Native.Nat.{ℕ}
 use mathlib.Core.List.{List}
 use Rattle.basics.specs.Outcomes.{codeWith}
 use Rattle.flaws.specs.declared.Flaw.{Flaw}
-use Rattle.station_flaws.specs.Calls.{recordFlaw}
+use Rattle.coordination_flaws.specs.Flaws.{recordFlaw}
 use Rattle.semicolons.specs.Lines.{recordOf}
 use Rattle.lists.specs.Calls.{lineOutcome}
 

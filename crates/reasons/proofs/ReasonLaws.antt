@@ -14,7 +14,7 @@ use Rattle.basics.specs.Fields.{placeOf}
 use Rattle.basics.specs.declared.Place.{Place}
 use Rattle.fields.specs.Table.{stationTable}
 use Rattle.station.specs.Places.{stationPlaces}
-use Rattle.station_flaws.specs.Calls.{recordFlaw}
+use Rattle.coordination_flaws.specs.Flaws.{recordFlaw}
 use Rattle.wording.specs.Words.{flawWords}
 use Rattle.reasons.specs.Reasons.{fieldText, reasonText}
 

@@ -10,7 +10,7 @@ use Rattle.basics.specs.Fields.{placeOf}
 use Rattle.fields.specs.Table.{stationTable}
 use Rattle.printing.specs.Lines.{labelled}
 use Rattle.station.specs.Places.{stationPlaces}
-use Rattle.station_flaws.specs.Calls.{recordFlaw}
+use Rattle.coordination_flaws.specs.Flaws.{recordFlaw}
 
 -- A field's columns, of which one alone has one number.
 unfoldable pub columnsText : ℕ → ℕ → List ℕ

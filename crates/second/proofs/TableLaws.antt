@@ -20,7 +20,8 @@ use Rattle.station.specs.Rules.{fieldRules}
 use Rattle.station.specs.Between.{betweenRules}
 use Rattle.station.specs.Codes.{valueOf, stationCode}
 use Rattle.station.specs.Calls.{readOutcome}
-use Rattle.station_flaws.specs.Calls.{recordFlaw, stationFlaw, flawOfReading}
+use Rattle.coordination_flaws.specs.Flaws.{recordFlaw}
+use Rattle.station_flaws.specs.Calls.{stationFlaw, flawOfReading}
 use Rattle.walking.specs.Walks.{firstRow, flawsBy, codeBy}
 use Rattle.walking.specs.Promises.{Walked}
 use Rattle.walking.specs.declared.Found.{Found}

@@ -7,7 +7,8 @@ use borrow.Author.Tests.{ne-eqb}
 use Rattle.basics.specs.Outcomes.{firstRefusal, codeWith}
 use Rattle.flaws.specs.declared.Flaw.the-variants as flaw
 use Rattle.station.specs.Calls.{readOutcome}
-use Rattle.station_flaws.specs.Calls.{recordFlaw, flawOfReading}
+use Rattle.coordination_flaws.specs.Flaws.{recordFlaw}
+use Rattle.station_flaws.specs.Calls.{flawOfReading}
 
 -- a record of another length has no code, and so no flaw
 pub no-record : (r : List ℕ) → (length r ≡ 219 → ⊥) → flaw.None ≡ flawOfReading r

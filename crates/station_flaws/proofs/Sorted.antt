@@ -12,7 +12,8 @@ use Rattle.station.specs.Places.{fieldsOf}
 use Rattle.station.specs.Rules.{fieldRules}
 use Rattle.station.specs.Between.{betweenRules}
 use Rattle.station.specs.Codes.{valueOf, stationCode}
-use Rattle.station_flaws.specs.Calls.{recordFlaw, stationFlaw}
+use Rattle.coordination_flaws.specs.Flaws.{recordFlaw}
+use Rattle.station_flaws.specs.Calls.{stationFlaw}
 
 -- the rules of the fields are that they have no flaw
 code-split : (r : List ℕ) → stationCode r ≡ firstBroken 1 (flawlessAll (flawsFrom 1 stationTable (fieldsOf r)) ++ betweenRules (valueOf r))

@@ -1,6 +1,7 @@
 // What is wrong with a station's record: its first broken code, and the flaw of the one field that the code names.
 use basics::Outcome;
 use basics::outcomes::code_with;
+use coordination_flaws::coordination_flaw;
 use flaws::Flaw;
 use formats::Format;
 use judging::check_station;
@@ -18,41 +19,21 @@ use symbol_flaws::country_flaw;
 use symbol_flaws::emission_flaw;
 use symbol_flaws::name_flaw;
 use symbol_flaws::polarisation_flaw;
-use symbol_flaws::reference_flaw;
-use symbol_flaws::remarks_flaw;
 use symbol_flaws::service_flaw;
 use symbol_flaws::users_flaw;
 use symbols::is_basis;
 use symbols::is_carrier;
 use symbols::is_category;
-use symbols::is_status;
 ghost use mathlib.Core.Path.{_≡_};
 ghost use Prim.Native.Nat.{_≤_};
 ghost use lib.ListN.{length};
-ghost use Rattle.station_flaws.specs.Calls.{recordFlaw};
+ghost use Rattle.coordination_flaws.specs.Flaws.{recordFlaw};
 ghost use Rattle.station_flaws.specs.Promises.{StationExplained};
 
 // How reading a record ends, and the flaw that comes with its code.
 pub struct Explained {
     pub outcome: Outcome,
     pub flaw: Flaw,
-}
-
-// Codes 24 to 30, and above them those between fields.
-fn coordination_flaw(rec: &[u8], code: u8) -> Flaw
-    requires { ⌜ (length (now rec) ≡ 219) × (24 ≤ code) ⌝ }
-    ensures { λ r. ⌜ r ≡ recordFlaw (now (rec .entry)) code ⌝ }
-{
-    match code {
-        24 => amount_flaw(&rec[125..136]),
-        25 => unit_flaw(&rec[125..136], &rec[136..137]),
-        26 => remarks_flaw(&rec[137..187]),
-        27 => byte_flaw(is_status(rec[187])),
-        28 => day_flaw(&rec[188..196]),
-        29 => day_flaw(&rec[196..204]),
-        30 => reference_flaw(&rec[204..219]),
-        _ => Flaw::Between,
-    }
 }
 
 // Codes 19 to 23, and those above.

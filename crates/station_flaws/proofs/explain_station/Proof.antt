@@ -2,7 +2,8 @@
 use mathlib.Core.Path.{_≡_, sym, ap, _∙_}
 use denote.Ref.{now}
 use Rattle.basics.specs.Outcomes.{codeWith}
-use Rattle.station_flaws.specs.Calls.{recordFlaw, flawOfReading}
+use Rattle.coordination_flaws.specs.Flaws.{recordFlaw}
+use Rattle.station_flaws.specs.Calls.{flawOfReading}
 use Rattle.station_flaws.proofs.LengthLaws.{no-record}
 use borrow.Author.Needs.{needs}
 use Rattle.station_flaws.proofs.explain_station.Statement.{statement}

@@ -4,7 +4,7 @@ use native.Mathlib.Omega.{arith}
 use denote.Ref.{now}
 use Rattle.fields.specs.Table.{fitsAt}
 use Rattle.station.specs.Places.{fieldsOf}
-use Rattle.station_flaws.specs.Calls.{recordFlaw}
+use Rattle.coordination_flaws.specs.Flaws.{recordFlaw}
 use Rattle.flaw_parts.proofs.CodeLaws.{past, coded}
 use borrow.Author.Needs.{needs}
 use Rattle.station_flaws.proofs.site_part_flaw.Statement.{statement}

@@ -1,17 +1,17 @@
--- `station_flaws::coordination_flaw` meets its contract, code by code; above them lie the codes between fields.
+-- `coordination_flaws::coordination_flaw` meets its contract, code by code; above them lie the codes between fields.
 use mathlib.Core.Path.{_≡_, sym, ap, _∙_}
 use native.Mathlib.Omega.{arith}
 use denote.Ref.{now}
 use Rattle.fields.specs.Table.{fitsAt}
 use Rattle.station.specs.Places.{fieldsOf}
-use Rattle.station_flaws.specs.Calls.{recordFlaw}
+use Rattle.coordination_flaws.specs.Flaws.{recordFlaw}
 use mathlib.Core.Bool.{cond}
 use mathlib.Core.List.{[]}
 use Rattle.flaws.specs.declared.Flaw.the-variants as flaw
 use Rattle.flaw_parts.proofs.CodeLaws.{past, coded, beyond, byte-there}
 use borrow.Author.Needs.{needs}
-use Rattle.station_flaws.proofs.coordination_flaw.Statement.{statement}
-use Rattle.station_flaws.proofs.coordination_flaw.Tie as tie
+use Rattle.coordination_flaws.proofs.coordination_flaw.Statement.{statement}
+use Rattle.coordination_flaws.proofs.coordination_flaw.Tie as tie
 
 sub-amount-flaw : tie.Need-sub-amount-flaw
 sub-amount-flaw c = search needs
