@@ -2,10 +2,10 @@
 use basics::Outcome;
 use empties::empty_station;
 use filling::put_fields;
-use lines_out::write_spelled;
 use lists::ReadLine;
 use lists::WrittenLine;
 use reading::typed::read_station;
+use spelled_lines::write_spelled;
 use splitting::lines::is_line;
 use station::Station;
 use station::typed::typed_code;

@@ -1,4 +1,4 @@
--- `lines_out::write_spelled` meets its contract: there is no room, or the line is copied.
+-- `spelled_lines::write_spelled` meets its contract: there is no room, or the line is copied.
 use denote.Ref.{now}
 use mathlib.Core.Path.{_≡_, ap, _∙_}
 use mathlib.Core.List.{List}
@@ -11,8 +11,8 @@ use Rattle.semicolons.specs.Lines.{joinedLine, lineOf}
 use Rattle.lists.proofs.RoundTrip.{record-line}
 use Rattle.lists.proofs.CallLaws.{no-room, line-written}
 use borrow.Author.Needs.{needs}
-use Rattle.lines_out.proofs.write_spelled.Statement.{statement}
-use Rattle.lines_out.proofs.write_spelled.Tie as tie
+use Rattle.spelled_lines.proofs.write_spelled.Statement.{statement}
+use Rattle.spelled_lines.proofs.write_spelled.Tie as tie
 
 -- what is put first is the station's line
 line-put : (c : tie.After-put-line) → take (c .put-line .result) (c .put-line .last .1 .0) ≡ lineOf (valueOf (now (c .before .before .before .before .args .rec)))
