@@ -1,4 +1,3 @@
-pub mod RowLaws
 pub mod SheetLaws
 pub mod ReportLaws
 pub mod Unique

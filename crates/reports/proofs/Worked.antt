@@ -7,7 +7,8 @@ use Rattle.numerals.specs.Numbers.{spellDigits}
 use Rattle.columns.specs.Texts.{bytes, every}
 use Rattle.forms.specs.Forms.{rowAt, badAt, headAt}
 use Rattle.printing.specs.Lines.{places, decimal, lineFeed, headerLine, stationLine, totalLine, brokenLine}
-use Rattle.reports.specs.Reports.{rowLine, sheetLines, sheetReport}
+use Rattle.report_rows.specs.Rows.{rowLine}
+use Rattle.reports.specs.Reports.{sheetLines, sheetReport}
 
 -- A line and its end.
 abbrev line : String → List ℕ

@@ -1,19 +1,14 @@
 -- Document 01, "The sheet": what the program prints of a file.
 use Prim.Native.Nat.{ℕ}
-use mathlib.Core.Bool.{cond}
-use mathlib.Core.List.{List, [], _++_}
+use mathlib.Core.List.{List, _++_}
 use Rattle.basics.specs.Outcomes.{refusal, ifDone}
 use Rattle.files.specs.Files.{stations}
 use Rattle.files.specs.Calls.{lengthOutcome}
 use Rattle.forms.specs.Counting.{count, rows}
-use Rattle.forms.specs.Forms.{codeIn}
-use Rattle.forms.specs.OwnForm.{rowIn, twinIn, clashIn, bad, headIn}
+use Rattle.forms.specs.OwnForm.{bad, headIn}
 use Rattle.sheet.specs.Sheets.{sheetOf}
-use Rattle.printing.specs.Lines.{refusedLine, headerLine, stationLine, totalLine}
-
--- The line of row k: its code, its twin and its clash where it is bad, else none.
-unfoldable pub rowLine : List ℕ → ℕ → List ℕ
-rowLine sheet k = cond (bad sheet k) (stationLine k (codeIn (rowIn sheet k)) (twinIn sheet k) (clashIn sheet k)) []
+use Rattle.report_rows.specs.Rows.{rowLine}
+use Rattle.printing.specs.Lines.{refusedLine, headerLine, totalLine}
 
 -- The lines of a sheet of n rows of which so many are bad: the header's code, the bad rows ascending, and both numbers.
 unfoldable pub sheetLines : List ℕ → ℕ → ℕ → List ℕ

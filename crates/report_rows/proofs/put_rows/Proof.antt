@@ -1,17 +1,17 @@
--- `reports::put_rows` meets its contract: the lines of so many rows stand, each behind the one before it.
+-- `report_rows::put_rows` meets its contract: the lines of so many rows stand, each behind the one before it.
 use denote.Ref.{now}
 use mathlib.Core.Path.{_≡_}
 use Prim.Native.Nat.{_+_, _-_, _*_, _≤_}
 use lib.ListN.{length}
 use Rattle.forms.specs.Counting.{rows}
-use Rattle.reports.specs.Reports.{rowLine}
+use Rattle.report_rows.specs.Rows.{rowLine}
 use Rattle.printing.specs.Promises.{Appended}
 use Rattle.printing.proofs.AppendLaws.{none, then}
 use Rattle.printing.proofs.LineLaws.{rows-more}
 use native.Mathlib.Omega.{arith}
 use borrow.Author.Needs.{needs}
-use Rattle.reports.proofs.put_rows.Statement.{statement}
-use Rattle.reports.proofs.put_rows.Tie as tie
+use Rattle.report_rows.proofs.put_rows.Statement.{statement}
+use Rattle.report_rows.proofs.put_rows.Tie as tie
 
 abbrev Inv-loop : tie.InvT-loop
 Inv-loop out₀ start sheet n end₀ i₀ out end i =

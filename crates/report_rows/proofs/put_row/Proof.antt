@@ -1,4 +1,4 @@
--- `reports::put_row` meets its contract: a bad row has its line, a good one none.
+-- `report_rows::put_row` meets its contract: a bad row has its line, a good one none.
 use denote.Ref.{now}
 use mathlib.Core.Path.{_≡_, sym, _∙_}
 use mathlib.Core.Bool.{true, false}
@@ -6,11 +6,11 @@ use Prim.Native.Nat.{_+_}
 use borrow.Author.Tests.{not-true, not-false}
 use Rattle.forms.specs.OwnForm.{bad}
 use Rattle.printing.proofs.AppendLaws.{none}
-use Rattle.reports.proofs.RowLaws.{good-row, bad-row}
+use Rattle.report_rows.proofs.RowLaws.{good-row, bad-row}
 use native.Mathlib.Omega.{arith}
 use borrow.Author.Needs.{needs}
-use Rattle.reports.proofs.put_row.Statement.{statement}
-use Rattle.reports.proofs.put_row.Tie as tie
+use Rattle.report_rows.proofs.put_row.Statement.{statement}
+use Rattle.report_rows.proofs.put_row.Tie as tie
 
 is-bad-requires : tie.Need-is-bad-requires
 is-bad-requires c κs = search needs

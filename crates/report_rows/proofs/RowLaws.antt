@@ -6,7 +6,7 @@ use Prim.Native.Nat.{ℕ, _+_}
 use Rattle.forms.specs.Forms.{codeIn}
 use Rattle.forms.specs.OwnForm.{rowIn, twinIn, clashIn, bad}
 use Rattle.printing.specs.Lines.{stationLine}
-use Rattle.reports.specs.Reports.{rowLine}
+use Rattle.report_rows.specs.Rows.{rowLine}
 
 module _ (sheet : List ℕ) (i : ℕ) where
   -- A good row has no line,
