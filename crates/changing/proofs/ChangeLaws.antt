@@ -19,17 +19,10 @@ use Rattle.station.specs.declared.setting.Settled.{Settled}
 use Rattle.reading.specs.Promises.{StationRead}
 use Rattle.reading.specs.declared.typed.ReadStation.{ReadStation}
 use Rattle.changing.specs.Changing.{changeOutcome, changedRecord}
-use Rattle.changing.specs.Promises.{then, RecordSettled, RecordChanged}
+use Rattle.settling.specs.Promises.{then, RecordSettled}
+use Rattle.settling.proofs.ThenLaws.{first-ends, second-ends}
+use Rattle.changing.specs.Promises.{RecordChanged}
 use Rattle.respelling.proofs.RespellLaws.{taken}
-
--- A second call counts only where the first is done.
-pub first-ends : (a b : Outcome) → done a ≡ false → then a b ≡ a
-unfolding then
-first-ends a b f = if-refused a b a f
-
-pub second-ends : (a b : Outcome) → done a ≡ true → then a b ≡ b
-unfolding then
-second-ends a b d = if-done a b a d
 
 -- For a record that was read, and its station that was set:
 module _ (change : Station → Station) (r : List ℕ) (read : ReadStation) (settled : Settled) (p : StationRead r read) (q : StationSet (read .station) (change (read .station)) settled) where

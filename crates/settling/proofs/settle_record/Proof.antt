@@ -1,4 +1,4 @@
--- `changing::settle_record` meets its contract: what was settled may be written without being judged again.
+-- `settling::settle_record` meets its contract: what was settled may be written without being judged again.
 use mathlib.Core.Path.{refl, sym, ap, _∙_}
 use denote.Ref.{now}
 use borrow.Author.Tests.{not-true, not-false}
@@ -8,10 +8,10 @@ use Rattle.basics.proofs.RefusalLaws.{done, if-done, if-refused}
 use Rattle.basics.proofs.CallLaws.{accepted}
 use Rattle.station.specs.Codes.{typedCode}
 use Rattle.station.specs.Calls.{writeOutcome, writtenStation}
-use Rattle.changing.proofs.ChangeLaws.{first-ends, second-ends}
+use Rattle.settling.proofs.ThenLaws.{first-ends, second-ends}
 use borrow.Author.Needs.{needs}
-use Rattle.changing.proofs.settle_record.Statement.{statement}
-use Rattle.changing.proofs.settle_record.Tie as tie
+use Rattle.settling.proofs.settle_record.Statement.{statement}
+use Rattle.settling.proofs.settle_record.Tie as tie
 
 is-done-requires : tie.Need-is-done-requires
 is-done-requires c κs = search needs
