@@ -1,5 +1,3 @@
-pub mod ReasonLaws
-pub mod CarriageLaws
 pub mod Unique
 pub mod UniqueReasons
 pub mod UniqueCarriages

@@ -1,3 +1,2 @@
-pub mod ShownLaws
 pub mod OrderLaws
 pub mod Unique

@@ -4,7 +4,6 @@ use Prim.Native.Nat.{ℕ}
 use mathlib.Core.Path.{_≡_}
 use mathlib.Core.List.{List}
 use Rattle.basics.specs.Outcomes.{refusal}
-use Rattle.showing.specs.Showing.{showOutcome, shownOffset, shownLength}
 use Rattle.sheet.specs.Calls.{judgeOutcome, judgedInto}
 use Rattle.replacing.specs.Calls.{replaceOutcome, replacedFile, replacedSheet, replacedRows}
 use Rattle.verifying.specs.Verifying.{findingOf}
@@ -40,8 +39,3 @@ FindingTold f found offset = (found ≡ findingNumber f) × (offset ≡ offsetWi
 -- `desk_verify` of a file and a sheet.
 abbrev pub FilingVerified : List ℕ → List ℕ → ℕ → ℕ → ℕ → Type 0
 FilingVerified file sheet answer found offset = (answer ≡ refusal (judgeOutcome file sheet)) × FindingTold (findingOf file sheet) found offset
-
--- `desk_show` of field j of record k.
-abbrev pub FieldLocated : List ℕ → ℕ → ℕ → ℕ → ℕ → ℕ → Type 0
-FieldLocated file k j answer offset length =
-    (answer ≡ refusal (showOutcome file k j)) × (offset ≡ shownOffset file k j) × (length ≡ shownLength file k j)

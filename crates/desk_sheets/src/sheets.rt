@@ -1,14 +1,11 @@
-// The calls on files and sheets: judging, replacing, verifying and showing.
-use basics::outcomes::is_done;
+// The calls on files and sheets: judging, replacing and verifying.
 use basics::outcomes::refusal_number;
-use places::field_place;
 use replacing::records::replace;
 use sheet_judging::judge;
-use showing::show_outcome;
 use verifying::verifying::Finding;
 use verifying::verifying::verify;
 ghost use Rattle.replacing.specs.Promises.{StillJudged};
-ghost use Rattle.desk_sheets.specs.Promises.{FindingTold, FilingJudged, FilingReplaced, FilingVerified, FieldLocated};
+ghost use Rattle.desk_sheets.specs.Promises.{FindingTold, FilingJudged, FilingReplaced, FilingVerified};
 
 // Judges a file into the lent sheet: 1, 2, 3, or 0.
 #[no_mangle]
@@ -66,28 +63,4 @@ pub extern "C" fn desk_verify(file: &[u8], sheet: &[u8], found: &mut u8, offset:
     let finding = verified.finding;
     *found = told_finding(finding, offset);
     refusal_number(outcome)
-}
-
-// Where a field stands in the file and how long it is: 1, 2, 5, 8, or 0.
-#[no_mangle]
-pub extern "C" fn desk_show(
-    file: &[u8],
-    number: usize,
-    field: usize,
-    offset: &mut usize,
-    length: &mut usize,
-) -> u8
-    ensures { λ r. ⌜ FieldLocated (now (file .entry)) number field r (now (offset .exit)) (now (length .exit)) ⌝ }
-{
-    let outcome = show_outcome(file, number, field);
-    if !is_done(outcome) {
-        *offset = 0;
-        *length = 0;
-        return refusal_number(outcome);
-    }
-    let place = field_place(number, field);
-    let before = place.first - 1;
-    *offset = 219 * number + before;
-    *length = place.length;
-    0
 }

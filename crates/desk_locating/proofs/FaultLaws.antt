@@ -7,7 +7,7 @@ use lib.Dec.{eqb}
 use Rattle.faults.specs.Faults.{marksOf, hasMarks, longField}
 use Rattle.faults.specs.declared.Marks.{Marks}
 use Rattle.faults.specs.declared.LongField.{LongField}
-use Rattle.desk_lists.specs.Reasons.{MarksTold, LongFieldTold}
+use Rattle.desk_locating.specs.Promises.{MarksTold, LongFieldTold}
 
 -- The marks of a line,
 pub marks-told : (t : List ℕ) (m : Marks) (answer ended : ℕ) → m ≡ marksOf t → answer ≡ cond (hasMarks m) 0 10 → ended ≡ cond (m .ended) 1 0 → MarksTold t answer (m .semicolons) (m .feeds) ended

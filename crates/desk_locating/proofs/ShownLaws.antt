@@ -20,7 +20,7 @@ use Rattle.files.proofs.LengthLaws.{whole-records}
 use Rattle.places.proofs.PlaceLaws.{places-tile, place-inside}
 use Rattle.showing.proofs.ShowLaws.{shown-there}
 use Rattle.showing.proofs.PieceLaws.{shown-length}
-use Rattle.desk_sheets.specs.Promises.{FieldLocated}
+use Rattle.desk_locating.specs.Promises.{FieldLocated}
 
 -- a file of which a field can be shown is not too long
 file-length : (file : List ℕ) (k j : ℕ) → done (showOutcome file k j) ≡ true → length file ≤ 65481

@@ -1,10 +1,10 @@
--- `desk_lists::reasons::desk_long_field` meets its contract.
+-- `desk_locating::desk_long_field` meets its contract.
 use denote.Ref.{now}
 use borrow.Author.Tests.{eq-eqb, ne-eqb}
-use Rattle.desk_lists.proofs.ReasonLaws.{long-field-told}
+use Rattle.desk_locating.proofs.FaultLaws.{long-field-told}
 use borrow.Author.Needs.{needs}
-use Rattle.desk_lists.proofs.reasons.desk_long_field.Statement.{statement}
-use Rattle.desk_lists.proofs.reasons.desk_long_field.Tie as tie
+use Rattle.desk_locating.proofs.desk_long_field.Statement.{statement}
+use Rattle.desk_locating.proofs.desk_long_field.Tie as tie
 
 long-field-requires : tie.Need-long-field-requires
 long-field-requires c κs = search needs

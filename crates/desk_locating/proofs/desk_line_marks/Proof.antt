@@ -1,9 +1,9 @@
--- `desk_lists::reasons::desk_line_marks` meets its contract.
+-- `desk_locating::desk_line_marks` meets its contract.
 use denote.Ref.{now}
-use Rattle.desk_lists.proofs.ReasonLaws.{marks-told}
+use Rattle.desk_locating.proofs.FaultLaws.{marks-told}
 use borrow.Author.Needs.{needs}
-use Rattle.desk_lists.proofs.reasons.desk_line_marks.Statement.{statement}
-use Rattle.desk_lists.proofs.reasons.desk_line_marks.Tie as tie
+use Rattle.desk_locating.proofs.desk_line_marks.Statement.{statement}
+use Rattle.desk_locating.proofs.desk_line_marks.Tie as tie
 
 line-marks-requires : tie.Need-line-marks-requires
 line-marks-requires c κs = search needs

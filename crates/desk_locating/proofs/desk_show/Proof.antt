@@ -1,14 +1,14 @@
--- `desk_sheets::sheets::desk_show` meets its contract: two zeros, or where the field stands.
+-- `desk_locating::desk_show` meets its contract: two zeros, or where the field stands.
 use denote.Ref.{now}
 use mathlib.Core.Path.{ap, _∙_}
 use Rattle.basics.specs.Outcomes.{refusal}
 use Rattle.basics.specs.declared.Outcome.{Outcome}
 use Rattle.basics.proofs.RefusalLaws.{went-on, stopped}
-use Rattle.desk_sheets.proofs.ShownLaws.{placed, located-not, located-there}
+use Rattle.desk_locating.proofs.ShownLaws.{placed, located-not, located-there}
 use native.Mathlib.Omega.{arith}
 use borrow.Author.Needs.{needs}
-use Rattle.desk_sheets.proofs.sheets.desk_show.Statement.{statement}
-use Rattle.desk_sheets.proofs.sheets.desk_show.Tie as tie
+use Rattle.desk_locating.proofs.desk_show.Statement.{statement}
+use Rattle.desk_locating.proofs.desk_show.Tie as tie
 
 show-outcome-requires : tie.Need-show-outcome-requires
 show-outcome-requires c κs = search needs

@@ -1,11 +1,11 @@
--- `desk_lists::carriages::desk_carriage_number` meets its contract.
+-- `desk_locating::desk_carriage_number` meets its contract.
 use denote.Ref.{now}
 use mathlib.Core.Path.{ap, sym, _∙_}
 use lib.ListN.{length}
-use Rattle.desk_lists.proofs.CarriageLaws.{none-held, one-held}
+use Rattle.desk_locating.proofs.NumberLaws.{none-held, one-held}
 use borrow.Author.Needs.{needs}
-use Rattle.desk_lists.proofs.carriages.desk_carriage_number.Statement.{statement}
-use Rattle.desk_lists.proofs.carriages.desk_carriage_number.Tie as tie
+use Rattle.desk_locating.proofs.desk_carriage_number.Statement.{statement}
+use Rattle.desk_locating.proofs.desk_carriage_number.Tie as tie
 
 number-in-requires : tie.Need-number-in-requires
 number-in-requires c κs = search needs

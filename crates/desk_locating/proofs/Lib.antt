@@ -1,0 +1,4 @@
+pub mod ShownLaws
+pub mod FaultLaws
+pub mod NumberLaws
+pub mod Unique
