@@ -5,7 +5,7 @@ use mathlib.Core.Path.{_≡_}
 use mathlib.Core.List.{List}
 use Rattle.basics.specs.Outcomes.{refusal}
 use Rattle.sheet.specs.Calls.{judgeOutcome}
-use Rattle.replaying.specs.Replaying.{acceptedIn, refusedIn, stoppedIn, leftBy}
+use Rattle.trace_runs.specs.Replaying.{acceptedIn, refusedIn, stoppedIn, leftBy}
 
 -- `desk_replay` of a trace from a file.
 abbrev pub FilingReplayed : List ℕ → List ℕ → List ℕ → ℕ → ℕ → ℕ → ℕ → List ℕ → List ℕ → Type 0

@@ -14,7 +14,7 @@ use Rattle.sheet.specs.Calls.{judgeOutcome, judgedInto}
 use Rattle.sheet.proofs.SheetLaws.{judged-length}
 use Rattle.sheet.proofs.JudgeLaws.{judge-sized-up}
 use Rattle.traces.specs.Traces.{stopsAt, ranOf}
-use Rattle.replaying.specs.Replaying.{accepted, aboveAll, dayAfter, acceptedIn, refusedIn, stoppedIn, leftBy}
+use Rattle.trace_runs.specs.Replaying.{accepted, aboveAll, dayAfter, acceptedIn, refusedIn, stoppedIn, leftBy}
 use Rattle.replaying.specs.Promises.{TraceReplayed}
 use Rattle.replaying.specs.declared.running.Replayed.{Replayed}
 

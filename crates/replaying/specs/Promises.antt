@@ -3,7 +3,7 @@ use Prim.Native.Nat.{ℕ}
 use mathlib.Core.Path.{_≡_}
 use mathlib.Core.List.{List}
 use Rattle.sheet.specs.Calls.{judgeOutcome}
-use Rattle.replaying.specs.Replaying.{acceptedIn, refusedIn, stoppedIn, leftBy}
+use Rattle.trace_runs.specs.Replaying.{acceptedIn, refusedIn, stoppedIn, leftBy}
 use Rattle.replaying.specs.declared.running.Replayed.{Replayed}
 
 -- `replay`: how it ends, its counts, the save that it stopped at, and the file and the sheet that it leaves.

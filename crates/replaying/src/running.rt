@@ -18,7 +18,7 @@ ghost use Rattle.sheet.specs.Sheets.{sheetOf};
 ghost use Rattle.sheet.specs.Calls.{judgeOutcome};
 ghost use Rattle.replacing.specs.Calls.{replaceOutcome, replacedFile, replacedSheet};
 ghost use Rattle.traces.specs.Traces.{saveLength, savedNumber, savedRecord, stopsAt, ranOf};
-ghost use Rattle.replaying.specs.Replaying.{accepted, aboveAll, dayAfter};
+ghost use Rattle.trace_runs.specs.Replaying.{accepted, aboveAll, dayAfter};
 ghost use Rattle.replaying.specs.Promises.{TraceReplayed};
 
 // How running a trace ended: the saves that were accepted and refused, and the save that it stopped at, counted from 1, or 0.

@@ -7,7 +7,7 @@ use lib.Seq.{length-take-le, take-all}
 use native.Mathlib.Omega.{arith}
 use borrow.Author.Needs.{needs}
 use Rattle.traces.specs.Traces.{savedDigits, savedNumber, savedRecord}
-use Rattle.replaying.proofs.RunLaws.{as-saved, told-taken, told-refused}
+use Rattle.trace_runs.proofs.RunLaws.{as-saved, told-taken, told-refused}
 use Rattle.replaying.proofs.running.run_save.Statement.{statement}
 use Rattle.replaying.proofs.running.run_save.Tie as tie
 

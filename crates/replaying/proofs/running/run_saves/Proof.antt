@@ -15,9 +15,9 @@ use Rattle.sheet.specs.Sheets.{sheetOf}
 use Rattle.sheet.proofs.JudgeLaws.{judge-passed}
 use Rattle.replacing.specs.Calls.{afterAll}
 use Rattle.traces.specs.Traces.{saveLength, saveAt, canRun, asked}
-use Rattle.replaying.specs.Replaying.{accepted}
+use Rattle.trace_runs.specs.Replaying.{accepted}
 use Rattle.traces.proofs.TraceLaws.{stops, save-after, one-more, no-more, stopped-there, ran-all, save-whole, runs-within}
-use Rattle.replaying.proofs.RunLaws.{turn, run-told}
+use Rattle.trace_runs.proofs.RunLaws.{turn, run-told}
 use Rattle.replaying.proofs.running.run_saves.Statement.{statement}
 use Rattle.replaying.proofs.running.run_saves.Tie as tie
 

@@ -25,7 +25,7 @@ use Rattle.replacing.proofs.Demand3.{after-any-run}
 use Rattle.replacing.proofs.EitherOrder.{judgedEnd, judged-end, taken, taken-by-length}
 use Rattle.replacing.proofs.AnyOrder.{Call, run-keeps-length}
 use Rattle.traces.specs.Traces.{savedDigits, saveAt, savedNumber, savedRecord, canRun, stopsAt, ranOf, asked}
-use Rattle.replaying.specs.Replaying.{accepted, aboveAll, dayAfter}
+use Rattle.trace_runs.specs.Replaying.{accepted, aboveAll, dayAfter}
 use Rattle.traces.proofs.TraceLaws.{call, asked-one, save-whole}
 
 -- A run and another after it are one run.

@@ -17,9 +17,9 @@ use Rattle.replacing.specs.Calls.{afterAll}
 use Rattle.replacing.proofs.Demand3.{after-any-run}
 use Rattle.replacing.proofs.AnyOrder.{run-keeps-length}
 use Rattle.traces.specs.Traces.{saveLength, saveAt, savedNumber, canRun, begun, stopsAt, ranOf, asked}
-use Rattle.replaying.specs.Replaying.{dayAfter, accepted, aboveAll}
+use Rattle.trace_runs.specs.Replaying.{dayAfter, accepted, aboveAll}
 use Rattle.traces.proofs.TraceLaws.{stops, call, no-more}
-use Rattle.replaying.proofs.RunLaws.{after-both}
+use Rattle.trace_runs.proofs.RunLaws.{after-both}
 
 -- A number of the second of two texts, counted through both: 0 stays 0.
 abbrev pub behind : ℕ → ℕ → ℕ

@@ -16,8 +16,8 @@ use Rattle.sheet.proofs.JudgeLaws.{judge-sized-up}
 use Rattle.replacing.proofs.Demand3.{after-any-run}
 use Rattle.replacing.proofs.AnyOrder.{run-keeps-length}
 use Rattle.traces.specs.Traces.{saveLength, saveAt, savedNumber, stopsAt, ranOf, asked}
-use Rattle.replaying.specs.Replaying.{dayAfter, acceptedIn, refusedIn, stoppedIn, leftBy}
-use Rattle.replaying.proofs.GoingOn.{behind, stops-behind, counts-add, day-goes-on}
+use Rattle.trace_runs.specs.Replaying.{dayAfter, acceptedIn, refusedIn, stoppedIn, leftBy}
+use Rattle.trace_runs.proofs.GoingOn.{behind, stops-behind, counts-add, day-goes-on}
 
 -- The sheet left is the one judged from the list left.
 pub left-judged : (file trace : List ℕ) → dayAfter file trace .1 ≡ sheetOf (dayAfter file trace .0)

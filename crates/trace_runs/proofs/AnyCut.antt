@@ -13,7 +13,7 @@ use Rattle.forms.specs.Counting.{orElse, first}
 use Rattle.forms.proofs.CountLaws.{first-cong}
 use Rattle.traces.specs.Traces.{saveLength, saveAt, canRun, begun, stopsAt, ranOf}
 use Rattle.traces.proofs.TraceLaws.{stops, no-more, runs-within}
-use Rattle.replaying.proofs.GoingOn.{first-saves}
+use Rattle.trace_runs.proofs.GoingOn.{first-saves}
 
 -- A search that finds none finds none among fewer,
 none-lower : (p : ℕ → Bool) (n : ℕ) → first p (suc n) ≡ 0 → (first p n ≡ 0) × (p (suc n) ≡ false)

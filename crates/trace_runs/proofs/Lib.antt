@@ -1,0 +1,4 @@
+pub mod RunLaws
+pub mod GoingOn
+pub mod CallsGoOn
+pub mod AnyCut
