@@ -6,19 +6,25 @@ ghost use lib.ListN.{length, take, drop};
 ghost use lib.IntN.{natAbs};
 ghost use Rattle.numerals.specs.Numbers.{spellDigits, spellWhole, wholeFits, spellSigned, signedFits, isNegative};
 
-// Writes the last count decimal digits of v from at on, and answers what is left of v.
+// Writes the last count decimal digits of v from at on, two at a time, and answers what is left of v.
 pub fn put_digits(s: &mut [u8], at: usize, count: usize, v: u64) -> u64
     requires { ⌜ at + count ≤ length (now s) ⌝ }
     ensures { λ r. ⌜ (r ≡ v / 10 ^ count) × (now (s .exit) ≡ take at (now (s .entry)) ++ spellDigits count v (drop (at + count) (now (s .entry)))) ⌝ }
 {
     let mut rest = v;
     let mut left = count;
-    while 0 < left {
-        left -= 1;
-        s[at + left] = 48 + (rest % 10) as u8;
-        rest = rest / 10;
+    while 1 < left {
+        left -= 2;
+        let pair = rest % 100;
+        s[at + left + 1] = 48 + (pair % 10) as u8;
+        s[at + left] = 48 + (pair / 10) as u8;
+        rest = rest / 100;
     }
-    rest
+    if left == 0 {
+        return rest;
+    }
+    s[at] = 48 + (rest % 10) as u8;
+    rest / 10
 }
 
 // Writes the last digits of v, one in each column.
