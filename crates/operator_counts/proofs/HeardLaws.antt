@@ -1,7 +1,7 @@
 -- What is heard of a station that breaks no rule: its operator's code is two digits, and its transmit frequency has its places.
 use mathlib.Core.Path.{_≡_, refl}
 use mathlib.Core.Bool.{Bool, true, false, cond, _&&_, false≢true}
-use mathlib.Core.List.{List, [], _∷_, _++_}
+use mathlib.Core.List.{List, [], _∷_}
 use Prim.Native.Nat.{ℕ, zero, suc, _+_, _-_, _*_, _/_, _%_, _≤_, _<_}
 use native.Mathlib.Omega.{arith}
 use lib.Dec.{leb, eqb}
@@ -13,17 +13,14 @@ use Rattle.columns.proofs.TextLaws.{and-split, and-both}
 use Rattle.numerals.specs.Numbers.{numberFrom, number, spellDigits, spellWhole}
 use Rattle.frequencies.specs.Frequencies.{frequencyFits}
 use Rattle.frequencies.proofs.FrequencyColumns.{frequency-pair}
-use Rattle.basics.specs.Rules.{All}
-use Rattle.basics.proofs.RuleLaws.{all-hold, all-front, rule}
+use Rattle.basics.proofs.RuleLaws.{rule}
 use Rattle.station.specs.Places.{fieldsOf}
 use Rattle.station.specs.Rules.{fieldRules}
-use Rattle.station.specs.Between.{betweenRules}
-use Rattle.station.specs.Codes.{valueOf, stationCode}
 use Rattle.files.specs.Files.{recordAt}
 use Rattle.stations.specs.Stations.{codeAt, referenceAt, operatorAt, transmitAt, fieldOf}
+use Rattle.stations.proofs.GoodLaws.{holding}
 use Rattle.hundredths.specs.declared.Hundredths.{Hundredths}
 use Rattle.hundredths.specs.Hundredths.{hundredthsOf}
-use Rattle.operator_counts.specs.declared.Heard.{Heard}
 use Rattle.operator_counts.specs.declared.Heard.the-variants as heard
 use Rattle.operator_counts.specs.Counts.{heardAt, operators}
 
@@ -53,25 +50,17 @@ TwoDigits p = each (isDigit ∷ isDigit ∷ []) p ≡ true
 
 -- Station k, which breaks no rule.
 module _ (file : List ℕ) (k : ℕ) (good : codeAt file k ≡ 0) where
-  -- the rules of its fields hold
-  holding : All (fieldRules (fieldsOf (recordAt file k)))
-  unfolding codeAt stationCode
-  holding =
-      let rules = fieldRules (fieldsOf (recordAt file k)) in
-      let between = betweenRules (valueOf (recordAt file k)) in
-      all-front rules between (all-hold 0 (rules ++ between) good)
-
   -- Its operator's code is two digits,
   pub operator-digits : TwoDigits (operatorAt file k)
   unfolding operatorAt referenceAt fieldRules
   operator-digits =
-      let all = rule (fieldRules (fieldsOf (recordAt file k))) holding 30 in
+      let all = rule (fieldRules (fieldsOf (recordAt file k))) (holding file k good) 30 in
       each-take 2 _ (drop 5 (fieldOf file k 30)) (each-drop 5 _ (fieldOf file k 30) all)
 
   -- and its transmit frequency has its places.
   pub transmit-fits : frequencyFits (transmitAt file k) ≡ true
   unfolding transmitAt fieldRules
-  transmit-fits = frequency-pair .read (fieldOf file k 1) (fieldOf file k 2) (rule (fieldRules (fieldsOf (recordAt file k))) holding 1)
+  transmit-fits = frequency-pair .read (fieldOf file k 1) (fieldOf file k 2) (rule (fieldRules (fieldsOf (recordAt file k))) (holding file k good) 1)
 
 -- What two digits p are.
 pub record Digits (p : List ℕ) : Type 0 where

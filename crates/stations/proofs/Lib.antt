@@ -1,1 +1,2 @@
 pub mod StationLaws
+pub mod GoodLaws

@@ -3,7 +3,7 @@ use distances::Metres;
 use distances::read_ground;
 use files::lengths::record_in;
 use frequencies::Frequency;
-use frequencies::read_frequency;
+use frequency_values::frequency_in;
 use judging::station_code;
 use positions::Located;
 use positions::read_position;
@@ -66,11 +66,11 @@ pub fn ground(file: &[u8], k: usize) -> Metres
     read_ground(&rec[107..111])
 }
 
-// Its transmit frequency, 1A with its unit.
+// Its transmit frequency, 1A with its unit, where it breaks no rule.
 pub fn transmit(file: &[u8], k: usize) -> Frequency
-    requires { ⌜ recordLength * k + recordLength ≤ length (now file) ⌝ }
+    requires { ⌜ (recordLength * k + recordLength ≤ length (now file)) × (codeAt (now file) k ≡ 0) ⌝ }
     ensures { λ r. ⌜ r ≡ transmitAt (now (file .entry)) k ⌝ }
 {
     let rec = record_in(file, k);
-    read_frequency(&rec[0..11], &rec[11..12])
+    frequency_in(&rec[0..11], &rec[11..12])
 }

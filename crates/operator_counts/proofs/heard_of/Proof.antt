@@ -27,7 +27,9 @@ number-of-requires c κs =
     rw (c .operator .ensures) (two-digits _ (operator-digits (now (s .args .file)) (s .args .k) good))
 
 transmit-requires : tie.Need-transmit-requires
-transmit-requires c κs = search needs
+transmit-requires c κs =
+    let s = c .before .before .before .before .before in
+    (s .pre, sym (c .before .before .before .code .ensures) ∙ c .before .before .if1 .left)
 
 hundredths-of-requires : tie.Need-hundredths-of-requires
 hundredths-of-requires c κs =
