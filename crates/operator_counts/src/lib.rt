@@ -1,5 +1,6 @@
 // What the stations of a file say of their operators: how many there are of each, and the lowest and the highest transmit frequency, in one pass.
 use hundredths::Hundredths;
+use hundredths::anew;
 use hundredths::higher;
 use hundredths::hundredths_of;
 use hundredths::lower;
@@ -55,8 +56,8 @@ fn added(t: Tally, a: Hundredths) -> Tally
         Hundredths::Blank => Tally {
             stations: t.stations + 1,
             transmitting: t.transmitting,
-            lowest,
-            highest,
+            lowest: anew(lowest),
+            highest: anew(highest),
         },
         Hundredths::Filled(v) => {
             let low = lower(v, lowest);

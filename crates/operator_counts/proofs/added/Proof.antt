@@ -11,6 +11,12 @@ enum-told c = search needs
 add-t9 : tie.Need-add-t9
 add-t9 c = search needs
 
+anew-requires : tie.Need-anew-requires
+anew-requires c κs = search needs
+
+anew-requires-2 : tie.Need-anew-requires-2
+anew-requires-2 c κs = search needs
+
 enum-known-a : tie.Need-enum-known-a
 enum-known-a c = search needs
 
@@ -20,15 +26,15 @@ lower-requires c κs = search needs
 higher-requires : tie.Need-higher-requires
 higher-requires c κs = search needs
 
-add-t10 : tie.Need-add-t10
-add-t10 c = search needs
+add-t12 : tie.Need-add-t12
+add-t12 c = search needs
 
-add-t11 : tie.Need-add-t11
-add-t11 c = search needs
+add-t13 : tie.Need-add-t13
+add-t13 c = search needs
 
 returns : tie.Need-returns
 unfolding addedTo
-returns c = simp (c .before .enum-told .given .1, add-zero)
+returns c = simp (c .before .before .before .enum-told .given .1, c .before .anew .ensures, c .anew2 .ensures, add-zero)
 
 returns-2 : tie.Need-returns-2
 unfolding addedTo
@@ -40,10 +46,12 @@ added-spec =
     (tie.spec
     enum-told
     add-t9
+    anew-requires
+    anew-requires-2
     enum-known-a
     lower-requires
     higher-requires
-    add-t10
-    add-t11
+    add-t12
+    add-t13
     returns
     returns-2)
