@@ -1,24 +1,21 @@
 -- An amount in its one spelling, with a digit above 0 in the three places before the point, is a decimal above zero.
-use mathlib.Core.Path.{_≡_, refl, sym, ap, _∙_}
+use mathlib.Core.Path.{_≡_, refl, sym, _∙_}
 use mathlib.Core.Logic.{_⊎_, inl, inr, ⊎-elim}
 use mathlib.Core.Bool.{Bool, true, false, not, _&&_, _||_, true≢false}
 use mathlib.Core.List.{List}
-use Prim.Native.Nat.{ℕ, _+_, _<_}
+use Prim.Native.Nat.{ℕ, _<_}
 use native.Mathlib.Omega.{arith}
 use lib.Arith.{lt-of-le-ne}
 use lib.Dec.{eqb}
 use lib.ListN.{length, getD, take, drop, length-drop}
 use lib.Seq.{take-all, length-take-le, getD-take}
-use borrow.Author.Tests.{eq-eqb, ne-eqb, lt-ltb, not-true}
+use borrow.Author.Tests.{eq-eqb, lt-ltb, not-true}
 use Rattle.columns.specs.Sets.{isDigit}
-use Rattle.columns.specs.Texts.{ended, every}
-use Rattle.columns.proofs.TextLaws.{and-split, every-at, ended-length}
+use Rattle.columns.specs.Texts.{every}
+use Rattle.columns.proofs.TextLaws.{and-split, every-at}
 use Rattle.numerals.specs.Numbers.{number, numberFrom}
-use Rattle.numerals.specs.declared.Signed.the-variants as signed
 use Rattle.numerals.proofs.NumberLaws.{digit-range, number-grows, number-above}
-use Rattle.numerals.proofs.RoundTrip.{plain-trip}
-use Rattle.decimals.specs.Decimals.{admitsDecimal, magnitudeOf, decimalOf}
-use Rattle.decimals.proofs.DecimalPlain.{plain-magnitude}
+use Rattle.decimals.proofs.DecimalPlain.{plain-decimal}
 use Rattle.frequencies.specs.Frequencies.{amountGood}
 
 -- a digit that is not 0 is above it
@@ -37,7 +34,7 @@ either false false c e = inr e
 pub plain-amount : (p : List ℕ) → length p ≡ 11 → getD p 5 0 ≡ 46
     → ((every isDigit (take 5 p) && every isDigit (take 5 (drop 6 p))) && ((not (eqb (getD p 2 0) 48) || not (eqb (getD p 3 0) 48)) || not (eqb (getD p 4 0) 48))) ≡ true
     → amountGood p ≡ true
-unfolding amountGood decimalOf
+unfolding amountGood
 plain-amount p l dot e =
     let t = and-split (every isDigit (take 5 p) && every isDigit (take 5 (drop 6 p))) ((not (eqb (getD p 2 0) 48) || not (eqb (getD p 3 0) 48)) || not (eqb (getD p 4 0) 48)) e in
     let d = and-split (every isDigit (take 5 p)) (every isDigit (take 5 (drop 6 p))) (t .0) in
@@ -50,7 +47,5 @@ plain-amount p l dot e =
     (λ n. number-above 0 (take 5 p) 3 (above p 3 l (d .0) (omega arith) n)))
     (λ n. number-above 0 (take 5 p) 4 (above p 4 l (d .0) (omega arith) n))
     (either (not (eqb (getD p 2 0) 48)) (not (eqb (getD p 3 0) 48)) (not (eqb (getD p 4 0) 48)) (t .1)) in
-    let begins : 48 < getD p 0 0 + 1 = omega (arith, digit-range (getD (take 5 p) 0 0) (every-at isDigit (take 5 p) 0 (d .0) (omega (arith, length-take-le 5 p (omega arith)))) .0, getD-take 5 p 0 0 (omega arith)) in
-    let there : ended p ≡ false = ended-length p ∙ ne-eqb (length p) 0 (λ q. omega arith) in
-    rw (plain-trip false (admitsDecimal false) (magnitudeOf 5 5) p p v refl there (omega arith) (plain-magnitude 5 5 p (omega arith) l (d .0) dot rest))
+    rw (plain-decimal 5 5 p (omega arith) (omega arith) l (d .0) dot rest)
     (lt-ltb 0 v (omega (arith, number-grows (number (take 5 p)) (drop 6 p))))

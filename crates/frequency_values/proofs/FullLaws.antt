@@ -9,19 +9,18 @@ use native.Mathlib.Decide.{decLt}
 use lib.Dec.{eqb}
 use native.Mathlib.Nat.{zero-add, add-zero, add-assoc, mul-one, pow-succ', add-mul, mul-assoc}
 use lib.ListN.{length, getD, take, drop, length-drop, length-take, getD-replicate}
-use lib.Seq.{take-all, length-take-le, getD-take, getD-drop}
+use lib.Seq.{take-all, length-take-le, getD-drop}
 use borrow.Author.Tests.{ne-eqb}
 use Rattle.columns.specs.Sets.{is, isDigit}
 use Rattle.columns.specs.Texts.{head, tail, ended, skip, blank, every}
-use Rattle.columns.proofs.TextLaws.{and-split, tail-at, skip-other, blank-spaces, ended-length, every-take, every-at}
+use Rattle.columns.proofs.TextLaws.{and-split, tail-at, skip-other, blank-spaces, ended-length, every-take}
 use Rattle.flaws.specs.declared.Flaw.{Flaw}
 use Rattle.numerals.specs.Numbers.{leading, number, numberFrom, wholeFilled, amount, passes, inSign, unsigned}
 use Rattle.numerals.specs.declared.Whole.{Whole}
 use Rattle.numerals.specs.declared.Whole.the-variants as whole
-use Rattle.numerals.proofs.NumberLaws.{digit-range, leading-few, digits-below}
-use Rattle.numerals.proofs.RoundTrip.{plain-trip}
-use Rattle.decimals.specs.Decimals.{admitsDecimal, fractionOf, magnitudeOf, decimalOf}
-use Rattle.decimals.proofs.DecimalPlain.{plain-magnitude}
+use Rattle.numerals.proofs.NumberLaws.{leading-few, digits-below}
+use Rattle.decimals.specs.Decimals.{fractionOf, magnitudeOf, decimalOf}
+use Rattle.decimals.proofs.DecimalPlain.{plain-decimal}
 use Rattle.frequencies.specs.declared.Frequency.the-variants as frequency
 use Rattle.frequencies.specs.Frequencies.{aboveZero, amountGood, unitOf, frequencyOf}
 use Rattle.frequency_values.specs.Full.{ReachesThrough}
@@ -169,12 +168,11 @@ module _ (p : List ℕ) (n : length p ≡ 11) (good : amountGood p ≡ true) (th
 
   -- and says what they say.
   pub says-digits : (q : List ℕ) → frequency.Filled (number (take 5 p) * 100000 + number (take 5 (drop 6 p))) (unitOf (head q)) ≡ frequencyOf p q
-  unfolding frequencyOf decimalOf
+  unfolding frequencyOf
   says-digits q =
       let size : length (drop 6 p) ≡ 5 = length-drop 6 p ∙ omega arith in
       let v = numberFrom (number (take 5 p)) (drop 6 p) in
       let value : v ≡ number (take 5 p) * 100000 + number (take 5 (drop 6 p)) =
       joined-number (number (take 5 p)) (drop 6 p) ∙ rw (size, take-all 5 (drop 6 p) (omega arith)) in
-      let begins : 48 < getD p 0 0 + 1 = omega (arith, digit-range (getD (take 5 p) 0 0) (every-at isDigit (take 5 p) 0 before-point (omega (arith, length-take-le 5 p (omega arith)))) .0, getD-take 5 p 0 0 (omega arith)) in
-      rw (plain-trip false (admitsDecimal false) (magnitudeOf 5 5) p p v refl there (omega arith) (plain-magnitude 5 5 p (omega arith) n before-point (through .0) behind-point))
+      rw (plain-decimal 5 5 p (omega arith) (omega arith) n before-point (through .0) behind-point)
       (ap (λ (x : ℕ). frequency.Filled x (unitOf (head q))) (sym value))
