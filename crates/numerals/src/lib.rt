@@ -59,7 +59,7 @@ pub fn number_of(p: &[u8]) -> u64
     let mut value: u64 = 0;
     let mut i = 0;
     while i < p.len() {
-        value = value * 10 + ((p[i] - 48) as u64);
+        value = value * 10 + (p[i] as u64 - 48);
         i += 1;
     }
     value

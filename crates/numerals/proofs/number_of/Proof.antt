@@ -31,11 +31,11 @@ mul-value c = omega (arith, digit c)
 shared-slice-read-value : tie.Need-shared-slice-read-value Inv-loop μ-loop
 shared-slice-read-value c = search needs
 
-sub-value : tie.Need-sub-value Inv-loop μ-loop
-sub-value c = digit (c .before) .low
-
 cast-value : tie.Need-cast-value Inv-loop μ-loop
 cast-value c = omega (arith, digit (c .before))
+
+sub-value : tie.Need-sub-value Inv-loop μ-loop
+sub-value c = digit (c .before) .low
 
 add-value : tie.Need-add-value Inv-loop μ-loop
 add-value c = omega (arith, digit (c .before))
@@ -64,8 +64,8 @@ number-of-spec =
     loop-holds
     mul-value
     shared-slice-read-value
-    sub-value
     cast-value
+    sub-value
     add-value
     add-i
     loop-less
