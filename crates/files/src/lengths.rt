@@ -1,5 +1,10 @@
 // A file's length, and the records in it.
 use basics::Outcome;
+ghost use mathlib.Core.Path.{_≡_};
+ghost use Prim.Native.Nat.{_+_, _*_, _≤_};
+ghost use lib.ListN.{length};
+ghost use Rattle.basics.specs.Fields.{recordLength};
+ghost use Rattle.files.specs.Files.{recordAt};
 ghost use Rattle.files.specs.Promises.{FileChecked, StationsCounted, RecordFound};
 
 // The bytes of a record, the most stations of a file, and the most bytes.
@@ -50,4 +55,14 @@ pub fn record_in(file: &[u8], k: usize) -> &[u8]
     }
     let end = start + RECORD_LENGTH;
     &file[start..end]
+}
+
+// Record number k where it is wholly there, as a part of the file itself.
+pub fn whole_record(file: &[u8], k: usize) -> &[u8]
+    requires { ⌜ recordLength * k + recordLength ≤ length (now file) ⌝ }
+    ensures { λ r. ⌜ now r ≡ recordAt (now (file .entry)) k ⌝ }
+{
+    let first = RECORD_LENGTH * k;
+    let end = first + RECORD_LENGTH;
+    &file[first..end]
 }

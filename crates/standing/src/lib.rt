@@ -1,7 +1,7 @@
 // Standing: whether two stations of a file stand at one place and one height.
 use columns::texts::equal;
 use distances::Metres;
-use files::lengths::record_in;
+use files::lengths::whole_record;
 use positions::Located;
 use positions::Position;
 use stations::ground;
@@ -72,8 +72,8 @@ fn spelled_alike(file: &[u8], i: usize, k: usize) -> bool
     requires { ⌜ (recordLength * i + recordLength ≤ length (now file)) × (recordLength * k + recordLength ≤ length (now file)) ⌝ }
     ensures { λ r. ⌜ (r ≡ true → standAlike (now (file .entry)) i k ≡ true) ⌝ }
 {
-    let theirs = record_in(file, i);
-    let mine = record_in(file, k);
+    let theirs = whole_record(file, i);
+    let mine = whole_record(file, k);
     if equal_words(&theirs[51..66], &mine[51..66]) {
         equal(&theirs[107..111], &mine[107..111])
     } else {

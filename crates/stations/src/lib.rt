@@ -1,7 +1,7 @@
 // What the calls on whole files read of a station, where its record is wholly there.
 use distances::Metres;
 use distances::read_ground;
-use files::lengths::record_in;
+use files::lengths::whole_record;
 use frequencies::Frequency;
 use frequency_values::frequency_in;
 use judging::station_code;
@@ -18,7 +18,7 @@ pub fn code(file: &[u8], k: usize) -> u8
     requires { ⌜ recordLength * k + recordLength ≤ length (now file) ⌝ }
     ensures { λ r. ⌜ r ≡ codeAt (now (file .entry)) k ⌝ }
 {
-    station_code(record_in(file, k))
+    station_code(whole_record(file, k))
 }
 
 // Its 13X, as a part of the file itself.
@@ -26,7 +26,7 @@ pub fn reference(file: &[u8], k: usize) -> &[u8]
     requires { ⌜ recordLength * k + recordLength ≤ length (now file) ⌝ }
     ensures { λ r. ⌜ now r ≡ referenceAt (now (file .entry)) k ⌝ }
 {
-    let rec = record_in(file, k);
+    let rec = whole_record(file, k);
     &rec[204..219]
 }
 
@@ -53,7 +53,7 @@ pub fn position(file: &[u8], k: usize) -> Located
     requires { ⌜ recordLength * k + recordLength ≤ length (now file) ⌝ }
     ensures { λ r. ⌜ r ≡ positionAt (now (file .entry)) k ⌝ }
 {
-    let rec = record_in(file, k);
+    let rec = whole_record(file, k);
     read_position(&rec[51..66])
 }
 
@@ -62,7 +62,7 @@ pub fn ground(file: &[u8], k: usize) -> Metres
     requires { ⌜ recordLength * k + recordLength ≤ length (now file) ⌝ }
     ensures { λ r. ⌜ r ≡ groundAt (now (file .entry)) k ⌝ }
 {
-    let rec = record_in(file, k);
+    let rec = whole_record(file, k);
     read_ground(&rec[107..111])
 }
 
@@ -71,6 +71,6 @@ pub fn transmit(file: &[u8], k: usize) -> Frequency
     requires { ⌜ (recordLength * k + recordLength ≤ length (now file)) × (codeAt (now file) k ≡ 0) ⌝ }
     ensures { λ r. ⌜ r ≡ transmitAt (now (file .entry)) k ⌝ }
 {
-    let rec = record_in(file, k);
+    let rec = whole_record(file, k);
     frequency_in(&rec[0..11], &rec[11..12])
 }

@@ -16,11 +16,11 @@ use borrow.Author.Needs.{needs}
 use Rattle.standing.proofs.spelled_alike.Statement.{statement}
 use Rattle.standing.proofs.spelled_alike.Tie as tie
 
-record-in-requires : tie.Need-record-in-requires
-record-in-requires c κs = search needs
+whole-record-requires : tie.Need-whole-record-requires
+whole-record-requires c κs = search needs
 
-record-in-requires-2 : tie.Need-record-in-requires-2
-record-in-requires-2 c κs = search needs
+whole-record-requires-2 : tie.Need-whole-record-requires-2
+whole-record-requires-2 c κs = search needs
 
 sub-equal-words : tie.Need-sub-equal-words
 sub-equal-words c = search needs
@@ -31,7 +31,7 @@ part-equal-words-start c = search needs
 part-equal-words-end : tie.Need-part-equal-words-end
 part-equal-words-end c =
     let start = c .before .before .before in
-    column-there (now (start .args .file)) (start .args .i) (start .pre .0) (c .before .record-in .ensures .0) 66 (omega arith)
+    column-there (now (start .args .file)) (start .args .i) (start .pre .0) (c .before .whole-record .ensures) 66 (omega arith)
 
 sub-equal-words-2 : tie.Need-sub-equal-words-2
 sub-equal-words-2 c = search needs
@@ -42,7 +42,7 @@ part-equal-words-start-2 c = search needs
 part-equal-words-end-2 : tie.Need-part-equal-words-end-2
 part-equal-words-end-2 c =
     let start = c .before .before .before .before in
-    column-there (now (start .args .file)) (start .args .k) (start .pre .1) (c .before .record-in2 .ensures .0) 66 (omega arith)
+    column-there (now (start .args .file)) (start .args .k) (start .pre .1) (c .before .whole-record2 .ensures) 66 (omega arith)
 
 -- 4C has fifteen bytes
 fifteen : (rec : List ℕ) → 66 ≤ length rec → length (take 15 (drop 51 rec)) ≡ 15
@@ -52,10 +52,10 @@ equal-words-requires : tie.Need-equal-words-requires
 equal-words-requires c κs =
     let start = c .before .before .before .before .before in
     let file = now (start .args .file) in
-    let theirs = c .before .before .before .record-in in
-    let mine = c .before .before .record-in2 in
-    let a = fifteen (now (theirs .result)) (column-there file (start .args .i) (start .pre .0) (theirs .ensures .0) 66 (omega arith)) in
-    let b = fifteen (now (mine .result)) (column-there file (start .args .k) (start .pre .1) (mine .ensures .0) 66 (omega arith)) in
+    let theirs = c .before .before .before .whole-record in
+    let mine = c .before .before .whole-record2 in
+    let a = fifteen (now (theirs .result)) (column-there file (start .args .i) (start .pre .0) (theirs .ensures) 66 (omega arith)) in
+    let b = fifteen (now (mine .result)) (column-there file (start .args .k) (start .pre .1) (mine .ensures) 66 (omega arith)) in
     (a ∙ sym b, (omega (arith, a), omega (arith, a)))
 
 sub-equal : tie.Need-sub-equal
@@ -67,7 +67,7 @@ part-equal-start c = search needs
 part-equal-end : tie.Need-part-equal-end
 part-equal-end c =
     let start = c .before .before .before .before .before .before .before in
-    column-there (now (start .args .file)) (start .args .i) (start .pre .0) (c .before .before .before .before .before .record-in .ensures .0) 111 (omega arith)
+    column-there (now (start .args .file)) (start .args .i) (start .pre .0) (c .before .before .before .before .before .whole-record .ensures) 111 (omega arith)
 
 sub-equal-2 : tie.Need-sub-equal-2
 sub-equal-2 c = search needs
@@ -78,7 +78,7 @@ part-equal-start-2 c = search needs
 part-equal-end-2 : tie.Need-part-equal-end-2
 part-equal-end-2 c =
     let start = c .before .before .before .before .before .before .before .before in
-    column-there (now (start .args .file)) (start .args .k) (start .pre .1) (c .before .before .before .before .before .record-in2 .ensures .0) 111 (omega arith)
+    column-there (now (start .args .file)) (start .args .k) (start .pre .1) (c .before .before .before .before .before .whole-record2 .ensures) 111 (omega arith)
 
 equal-requires : tie.Need-equal-requires
 equal-requires c κs = search needs
@@ -88,8 +88,8 @@ returns c t =
     let a = c .before .before .before .before .before .before .before .before .before .before .args in
     let theirs = recordAt (now (a .file)) (a .i) in
     let mine = recordAt (now (a .file)) (a .k) in
-    let their-bytes = c .before .before .before .before .before .before .before .before .record-in .ensures .0 in
-    let my-bytes = c .before .before .before .before .before .before .before .record-in2 .ensures .0 in
+    let their-bytes = c .before .before .before .before .before .before .before .before .whole-record .ensures in
+    let my-bytes = c .before .before .before .before .before .before .before .whole-record2 .ensures in
     let places : same (take 15 (drop 51 theirs)) (take 15 (drop 51 mine)) ≡ true = rw (their-bytes, my-bytes) at (sym (c .before .before .before .before .equal-words .ensures) ∙ c .before .before .before .if1 .taken) in
     let heights : same (take 4 (drop 107 theirs)) (take 4 (drop 107 mine)) ≡ true = rw (their-bytes, my-bytes) at (sym (c .equal .ensures) ∙ t) in
     spelled-so (now (a .file)) (a .i) (a .k) (same-true _ _ places) (same-true _ _ heights)
@@ -101,8 +101,8 @@ pub spelled-alike-spec : {M : Type 1} → statement M
 spelled-alike-spec =
     tie.close
     (tie.spec
-    record-in-requires
-    record-in-requires-2
+    whole-record-requires
+    whole-record-requires-2
     sub-equal-words
     part-equal-words-start
     part-equal-words-end

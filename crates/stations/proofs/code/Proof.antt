@@ -11,17 +11,17 @@ use borrow.Author.Needs.{needs}
 use Rattle.stations.proofs.code.Statement.{statement}
 use Rattle.stations.proofs.code.Tie as tie
 
-record-in-requires : tie.Need-record-in-requires
-record-in-requires c κs = search needs
+whole-record-requires : tie.Need-whole-record-requires
+whole-record-requires c κs = search needs
 
 station-code-requires : tie.Need-station-code-requires
 station-code-requires c κs =
     let a = c .before .before .args in
-    ap length (c .record-in .ensures .0) ∙ record-wide (now (a .file)) (a .k) (c .before .before .pre)
+    ap length (c .whole-record .ensures) ∙ record-wide (now (a .file)) (a .k) (c .before .before .pre)
 
 returns : tie.Need-returns
 unfolding codeAt
-returns c = c .station-code .ensures ∙ ap (λ (r : List ℕ). stationCode r) (c .before .record-in .ensures .0)
+returns c = c .station-code .ensures ∙ ap (λ (r : List ℕ). stationCode r) (c .before .whole-record .ensures)
 
 pub code-spec : {M : Type 1} → statement M
-code-spec = tie.close (tie.spec record-in-requires station-code-requires returns)
+code-spec = tie.close (tie.spec whole-record-requires station-code-requires returns)
