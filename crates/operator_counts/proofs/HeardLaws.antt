@@ -2,7 +2,7 @@
 use mathlib.Core.Path.{_≡_, refl}
 use mathlib.Core.Bool.{Bool, true, false, cond, _&&_, false≢true}
 use mathlib.Core.List.{List, [], _∷_}
-use Prim.Native.Nat.{ℕ, zero, suc, _+_, _-_, _*_, _/_, _%_, _≤_, _<_}
+use Prim.Native.Nat.{ℕ, zero, suc, _+_, _-_, _*_, _/_, _%_, _^_, _≤_, _<_}
 use native.Mathlib.Omega.{arith}
 use lib.Dec.{leb, eqb}
 use lib.ListN.{length, getD, take, drop}
@@ -20,9 +20,11 @@ use Rattle.files.specs.Files.{recordAt}
 use Rattle.stations.specs.Stations.{codeAt, referenceAt, operatorAt, transmitAt, fieldOf}
 use Rattle.stations.proofs.GoodLaws.{holding}
 use Rattle.hundredths.specs.declared.Hundredths.{Hundredths}
+use Rattle.hundredths.specs.declared.Hundredths.the-variants as hundredths
 use Rattle.hundredths.specs.Hundredths.{hundredthsOf}
+use Rattle.hundredths.proofs.StepLaws.{hundredths-below}
 use Rattle.operator_counts.specs.declared.Heard.the-variants as heard
-use Rattle.operator_counts.specs.Counts.{heardAt, operators}
+use Rattle.operator_counts.specs.Counts.{heardAt, sentBy, operators}
 
 -- Places of a field that passes, from one on,
 each-drop : (m : ℕ) (tests : List (ℕ → Bool)) (p : List ℕ) → each tests p ≡ true → each (drop m tests) (drop m p) ≡ true
@@ -126,3 +128,17 @@ heard-below file k c a e = by (eqb (codeAt file k) 0) refl e
         let n : number (operatorAt file k) ≡ c = cc in
         omega (arith, n, number-below (operatorAt file k) (operator-digits file k (eqb-true (codeAt file k) 0 t)))
     by false t x = let z : _≡_ {A = ℕ} 0 1 = cc in absurd (omega arith)
+
+-- A frequency that is heard of an operator has sixteen digits at most.
+module _ (file : List ℕ) (k c m : ℕ) where
+  own-below : codeAt file k ≡ 0 → (b : Bool) → cond b (hundredthsOf (transmitAt file k)) hundredths.Blank ≡ hundredths.Filled m → m < 10 ^ 16
+  own-below good true e = hundredths-below (transmitAt file k) (transmit-fits file k good) m e
+  own-below good false e = absurd (let z : _≡_ {A = ℕ} 0 1 = cc in omega arith)
+
+  pub sent-below : sentBy c (heardAt file k) ≡ hundredths.Filled m → m < 10 ^ 16
+  unfolding heardAt
+  sent-below = by (eqb (codeAt file k) 0) refl
+    where
+      by : (b : Bool) → eqb (codeAt file k) 0 ≡ b → sentBy c (cond b (heard.Station (number (operatorAt file k)) (hundredthsOf (transmitAt file k))) heard.Nothing) ≡ hundredths.Filled m → m < 10 ^ 16
+      by true good e = own-below (eqb-true (codeAt file k) 0 good) (eqb (number (operatorAt file k)) c) e
+      by false bad e = absurd (let z : _≡_ {A = ℕ} 0 1 = cc in omega arith)
