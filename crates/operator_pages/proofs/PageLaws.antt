@@ -5,13 +5,13 @@ use mathlib.Core.List.{List, [], _∷_, _++_}
 use Prim.Native.Nat.{ℕ, zero, suc, _+_, _≤_, _<_, zero-le}
 use native.Mathlib.Omega.{arith}
 use borrow.Author.Tests.{ltb-false, lt-ltb, le-ltb}
-use lib.Dec.{ltb, eqb}
-use lib.ListN.{length, take, drop, replicate, length-append}
+use lib.Dec.{eqb}
+use lib.ListN.{length, take, length-append}
 use lib.Seq.{take-at}
-use Rattle.basics.specs.Outcomes.{refusal, ifDone, firstRefusal}
+use Rattle.basics.specs.Outcomes.{refusal, firstRefusal}
 use Rattle.basics.specs.declared.Outcome.{Outcome}
 use Rattle.basics.specs.declared.Outcome.the-variants as outcome
-use Rattle.basics.proofs.RefusalLaws.{done, done-is, if-done, if-refused, passes, stops, none-left, none-applies, asked-on, ended-there}
+use Rattle.basics.proofs.RefusalLaws.{done, if-done, if-refused, passes, stops, none-left, none-applies, asked-on, ended-there}
 use Rattle.files.specs.Files.{stations}
 use Rattle.files.specs.Calls.{fileTests}
 use Rattle.files.proofs.LengthLaws.{length-passed}
@@ -20,9 +20,8 @@ use Rattle.operator_counts.specs.Counts.{operators, heardAt, tallyOf, noTally, 
 use Rattle.operator_counts.proofs.TableLaws.{table-at}
 use Rattle.operator_pages.specs.declared.OperatorRow.{OperatorRow}
 use Rattle.operator_pages.specs.declared.Page.{Page}
-use Rattle.operator_pages.specs.Pages.{operatorRow, rowIfAny, rowsBelow, pageOf}
-use Rattle.operator_pages.specs.Calls.{roomTest, pageOutcome, rowsFor, filledUp, paged}
-use Rattle.operator_pages.proofs.PackLaws.{tallyIn}
+use Rattle.operator_pages.specs.Pages.{operatorRow, rowIfAny, rowsBelow, tallyIn, pageOf}
+use Rattle.operator_pages.specs.Calls.{roomTest, pageOutcome, rowsFor, pageAnswer, filledUp, paged}
 
 -- a row or none
 one-at-most : (b : Bool) (y : OperatorRow) → length {A = OperatorRow} (cond b [] (y ∷ [])) ≤ 1
@@ -74,19 +73,28 @@ module _ (file : List ℕ) (room : ℕ) where
       by true d = rw (rows-all d) (page-hundred file, page-fits d)
       by false d = rw (rows-none d) (zero-le, zero-le)
 
-  -- A refusal's page has no rows.
+  -- A refusal answers with no rows, and so does its page.
+  pub refused-answer : (o : Outcome) → o ≡ pageOutcome file room → done o ≡ false → record { outcome = o; rows = 0 } ≡ pageAnswer file room
+  unfolding pageAnswer
+  refused-answer o e d =
+      let none : rowsFor file room ≡ [] = rows-none (ap done (sym e) ∙ d) in
+      rw (none, e)
+
   refusing : (o : Outcome) (p : Page) → o ≡ pageOutcome file room → done o ≡ false → p ≡ paged o [] → p ≡ paged (pageOutcome file room) (rowsFor file room)
   refusing o p e d is =
       let none : rowsFor file room ≡ [] = rows-none (ap done (sym e) ∙ d) in
       is ∙ rw (none, e)
 
   -- The file's length is wrong.
-  pub length-refused : (p : Page) → done (firstRefusal (fileTests file)) ≡ false → p ≡ paged (firstRefusal (fileTests file)) [] → p ≡ paged (pageOutcome file room) (rowsFor file room)
+  pub length-ends : done (firstRefusal (fileTests file)) ≡ false → firstRefusal (fileTests file) ≡ pageOutcome file room
   unfolding pageOutcome
-  length-refused p d is = refusing (firstRefusal (fileTests file)) p (ended-there (fileTests file) (roomTest file room ∷ []) d) d is
+  length-ends d = ended-there (fileTests file) (roomTest file room ∷ []) d
 
-  -- The file's length is right, and its rows were packed.
-  module _ (right : done (firstRefusal (fileTests file)) ≡ true) (counts : List Tally) (counted : counts ≡ tabled (tallyOf (heardAt file) (stations file)) operators) (p : Page) (is : p ≡ paged outcome.Done (rowsBelow (tallyIn counts) operators)) where
+  pub length-refused : (p : Page) → done (firstRefusal (fileTests file)) ≡ false → p ≡ paged (firstRefusal (fileTests file)) [] → p ≡ paged (pageOutcome file room) (rowsFor file room)
+  length-refused p d is = refusing (firstRefusal (fileTests file)) p (length-ends d) d is
+
+  -- The file's length is right, and its stations were counted.
+  module _ (right : done (firstRefusal (fileTests file)) ≡ true) (counts : List Tally) (counted : counts ≡ tabled (tallyOf (heardAt file) (stations file)) operators) where
     on : pageOutcome file room ≡ firstRefusal (roomTest file room ∷ [])
     unfolding pageOutcome
     on = asked-on (fileTests file) (roomTest file room ∷ []) (length-passed file right)
@@ -95,18 +103,32 @@ module _ (file : List ℕ) (room : ℕ) where
     unfolding pageOf
     all = rows-same (tallyIn counts) (tallyOf (heardAt file) (stations file)) operators (λ c l. rw counted (table-at (tallyOf (heardAt file) (stations file)) noTally operators c l))
 
-    many : p .answer .rows ≡ length (pageOf file)
-    unfolding paged
-    many = ap (λ (q : Page). q .answer .rows) is ∙ ap length all
-
-    -- There is no room for them,
-    pub no-room : (q : Page) → room < p .answer .rows → q ≡ paged outcome.TooFewRows [] → q ≡ paged (pageOutcome file room) (rowsFor file room)
+    -- There is no room for their rows,
+    pub no-room : room < length (rowsBelow (tallyIn counts) operators) → outcome.TooFewRows ≡ pageOutcome file room
     unfolding refusal
-    no-room q l e = refusing outcome.TooFewRows q (sym (on ∙ stops outcome.TooFewRows [] (lt-ltb room (length (pageOf file)) (omega (arith, l, many))))) refl e
+    no-room l = sym (on ∙ stops outcome.TooFewRows [] (lt-ltb room (length (pageOf file)) (omega (arith, l, ap length all))))
 
-    -- or there is.
-    pub given : p .answer .rows ≤ room → p ≡ paged (pageOutcome file room) (rowsFor file room)
-    unfolding refusal
-    given l =
-        let fine : pageOutcome file room ≡ outcome.Done = on ∙ passes outcome.TooFewRows [] (le-ltb room (length (pageOf file)) (omega (arith, l, many))) ∙ none-left in
-        is ∙ rw (fine, all, rows-all (ap done fine))
+    -- or there is, and they are given.
+    module _ (l : length (rowsBelow (tallyIn counts) operators) ≤ room) where
+      pub room-there : outcome.Done ≡ pageOutcome file room
+      unfolding refusal
+      room-there = sym (on ∙ passes outcome.TooFewRows [] (le-ltb room (length (pageOf file)) (omega (arith, l, ap length all))) ∙ none-left)
+
+      pub given : rowsBelow (tallyIn counts) operators ≡ rowsFor file room
+      unfolding refusal
+      given = all ∙ sym (rows-all (ap done (sym room-there)))
+
+    -- So it is where the rows were packed.
+    module _ (p : Page) (is : p ≡ paged outcome.Done (rowsBelow (tallyIn counts) operators)) where
+      many : p .answer .rows ≡ length (rowsBelow (tallyIn counts) operators)
+      unfolding paged
+      many = ap (λ (q : Page). q .answer .rows) is
+
+      pub packed-refused : (q : Page) → room < p .answer .rows → q ≡ paged outcome.TooFewRows [] → q ≡ paged (pageOutcome file room) (rowsFor file room)
+      unfolding refusal
+      packed-refused q l e = refusing outcome.TooFewRows q (no-room (omega (arith, l, many))) refl e
+
+      pub packed-given : p .answer .rows ≤ room → p ≡ paged (pageOutcome file room) (rowsFor file room)
+      packed-given l =
+          let fits : length (rowsBelow (tallyIn counts) operators) ≤ room = omega (arith, l, many) in
+          is ∙ rw (room-there fits, given fits)

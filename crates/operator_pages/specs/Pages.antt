@@ -3,10 +3,11 @@ use Prim.Native.Nat.{ℕ, zero, suc, _+_}
 use mathlib.Core.Bool.{cond}
 use mathlib.Core.List.{List, [], _∷_, _++_}
 use lib.Dec.{eqb}
+use lib.ListN.{getD}
 use Rattle.numerals.specs.Numbers.{spellWhole}
 use Rattle.files.specs.Files.{stations}
 use Rattle.operator_counts.specs.declared.Tally.{Tally}
-use Rattle.operator_counts.specs.Counts.{operators, heardAt, tallyOf}
+use Rattle.operator_counts.specs.Counts.{operators, heardAt, tallyOf, noTally}
 use Rattle.operator_pages.specs.declared.OperatorRow.{OperatorRow}
 
 -- The row of operator c: its code as two digits, and what is counted of it,
@@ -21,6 +22,10 @@ rowIfAny c t = cond (eqb (t .stations) 0) [] (operatorRow c t ∷ [])
 unfoldable pub rowsBelow : (ℕ → Tally) → ℕ → List OperatorRow
 rowsBelow f zero = []
 rowsBelow f (suc k) = rowsBelow f k ++ rowIfAny k (f k)
+
+-- What a table of tallies has of operator c.
+abbrev pub tallyIn : List Tally → ℕ → Tally
+tallyIn counts c = getD counts c noTally
 
 -- The page of a file: a row for each operator code that has a station with code 0.
 unfoldable pub pageOf : List ℕ → List OperatorRow

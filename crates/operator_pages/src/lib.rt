@@ -10,10 +10,10 @@ use operator_counts::tallies;
 ghost use mathlib.Core.Path.{_≡_};
 ghost use mathlib.Core.List.{[]};
 ghost use Prim.Native.Nat.{_<_};
-ghost use lib.ListN.{getD};
+ghost use lib.ListN.{length};
 ghost use Rattle.basics.specs.declared.Outcome.the-variants as outcome;
-ghost use Rattle.operator_counts.specs.Counts.{operators, noTally};
-ghost use Rattle.operator_pages.specs.Pages.{operatorRow, rowsBelow};
+ghost use Rattle.operator_counts.specs.Counts.{operators};
+ghost use Rattle.operator_pages.specs.Pages.{operatorRow, rowsBelow, tallyIn};
 ghost use Rattle.operator_pages.specs.Calls.{paged, rowAt};
 ghost use Rattle.operator_pages.specs.Promises.{PageFound};
 
@@ -36,7 +36,7 @@ pub struct Page {
 }
 
 // The row of operator c.
-fn operator_row(c: usize, tally: Tally) -> OperatorRow
+pub fn operator_row(c: usize, tally: Tally) -> OperatorRow
     requires { ⌜ c < operators ⌝ }
     ensures { λ r. ⌜ r ≡ operatorRow c tally ⌝ }
 {
@@ -46,6 +46,22 @@ fn operator_row(c: usize, tally: Tally) -> OperatorRow
         code: [tens, ones],
         tally,
     }
+}
+
+// How many operators have stations.
+pub fn operators_in(counts: [Tally; OPERATORS]) -> usize
+    ensures { λ r. ⌜ r ≡ length (rowsBelow (tallyIn counts) operators) ⌝ }
+{
+    let mut found: usize = 0;
+    let mut c: usize = 0;
+    while c < OPERATORS {
+        let tally = counts[c];
+        c = c + 1;
+        if tally.stations != 0 {
+            found = found + 1;
+        }
+    }
+    found
 }
 
 // A page without rows.
@@ -70,7 +86,7 @@ fn no_rows(outcome: Outcome) -> Page
 
 // The rows of the operators that have stations, moved to the front.
 fn packed(counts: [Tally; OPERATORS]) -> Page
-    ensures { λ r. ⌜ r ≡ paged outcome.Done (rowsBelow (λ c. getD counts c noTally) operators) ⌝ }
+    ensures { λ r. ⌜ r ≡ paged outcome.Done (rowsBelow (tallyIn counts) operators) ⌝ }
 {
     let mut page = no_rows(Outcome::Done);
     let mut n: usize = 0;

@@ -1,13 +1,12 @@
 -- `operator_pages::page_for` meets its contract: the file's length is asked first, then the room.
 use denote.Ref.{now}
-use mathlib.Core.Path.{_≡_, ap, _∙_}
+use mathlib.Core.Path.{ap, _∙_}
 use mathlib.Core.List.{[]}
-use Prim.Native.Nat.{_≤_}
 use Rattle.basics.specs.declared.Outcome.{Outcome}
 use Rattle.basics.proofs.RefusalLaws.{went-on, stopped}
 use Rattle.files.proofs.LengthLaws.{length-passed, whole-records}
 use Rattle.operator_pages.specs.Calls.{paged}
-use Rattle.operator_pages.proofs.PageLaws.{length-refused, no-room, given}
+use Rattle.operator_pages.proofs.PageLaws.{length-refused, packed-refused, packed-given}
 use native.Mathlib.Omega.{arith}
 use borrow.Author.Needs.{needs}
 use Rattle.operator_pages.proofs.page_for.Statement.{statement}
@@ -51,7 +50,7 @@ returns-2 c =
     let counted = t .before .tallies in
     let s = t .before .before .before .before .before .before .before in
     let right = went-on (t .before .before .before .before .before .check-file .ensures) (t .before .before .before .before .is-done .ensures) (t .before .before .before .if1 .left) in
-    no-room (now (s .args .file)) (s .args .room) right (counted .result) (counted .ensures ∙ rw (t .before .before .stations-in .ensures)) (t .packed .result) (t .packed .ensures) _ (c .before .if2 .taken) (c .no-rows2 .ensures)
+    packed-refused (now (s .args .file)) (s .args .room) right (counted .result) (counted .ensures ∙ rw (t .before .before .stations-in .ensures)) (t .packed .result) (t .packed .ensures) _ (c .before .if2 .taken) (c .no-rows2 .ensures)
 
 returns-3 : tie.Need-returns-3
 returns-3 c =
@@ -59,7 +58,7 @@ returns-3 c =
     let counted = t .before .tallies in
     let s = t .before .before .before .before .before .before .before in
     let right = went-on (t .before .before .before .before .before .check-file .ensures) (t .before .before .before .before .is-done .ensures) (t .before .before .before .if1 .left) in
-    given (now (s .args .file)) (s .args .room) right (counted .result) (counted .ensures ∙ rw (t .before .before .stations-in .ensures)) (t .packed .result) (t .packed .ensures) (c .if2 .left)
+    packed-given (now (s .args .file)) (s .args .room) right (counted .result) (counted .ensures ∙ rw (t .before .before .stations-in .ensures)) (t .packed .result) (t .packed .ensures) (c .if2 .left)
 
 pub page-for-spec : {M : Type 1} → statement M
 page-for-spec =
