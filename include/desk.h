@@ -68,7 +68,7 @@ enum desk_refusal {
 };
 
 /* The bytes of a row of desk_operators, and the most operators that a file can have. */
-#define DESK_OPERATOR_WIDTH 40u
+#define DESK_OPERATOR_WIDTH 22u
 #define DESK_MAX_OPERATORS 100u
 
 /* What desk_verify finds. */
@@ -111,12 +111,14 @@ uint8_t desk_verify(const uint8_t *file, size_t file_length,
 
 /*
  * Writes a row of DESK_OPERATOR_WIDTH bytes for each operator that has a station with code 0,
- * ascending by code, one after the other from the start of `out`: columns 1-2 the operator's code
- * (places 6 and 7 of 13X), 3-5 its stations with code 0, 6-8 those of them with a transmit
- * frequency, 9-24 the lowest and 25-40 the highest of these in hundredths of a hertz. All columns
- * hold digits; 9-40 hold spaces where no station has a transmit frequency. `count` is the number of
+ * ascending by code, one after the other from the start of `out`: bytes 0 and 1 are the operator's
+ * code, two digits (places 6 and 7 of 13X), 2 and 3 the number of its stations with code 0, 4 and 5
+ * of those with a transmit frequency, 6 to 13 the lowest and 14 to 21 the highest of these in
+ * hundredths of a hertz. Numbers have their high byte first, as in a sheet. Bytes 6 to 21 are spaces
+ * where no station has a transmit frequency; no frequency has such bytes. `count` is the number of
  * rows, 0 on a refusal. Bytes past the last row keep what they held; what is left of `out` behind
- * its last whole row is no room.
+ * its last whole row is no room. DESK_OPERATOR_WIDTH times DESK_MAX_OPERATORS bytes are enough for
+ * any file.
  * Refusals: 1, 2, 17.
  */
 uint8_t desk_operators(const uint8_t *file, size_t file_length,

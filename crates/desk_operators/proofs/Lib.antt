@@ -1,2 +1,4 @@
+pub mod RowLaws
+pub mod ToldLaws
 pub mod Unique
 pub mod Worked

@@ -310,7 +310,7 @@ fn one_pass(n: usize) -> f64 {
     let found = n.min(100);
     let mut pages = files.iter().cycle();
     let mut codes = files.iter().cycle();
-    let mut rows = [0; 100 * 40];
+    let mut rows = [0; 100 * raw::OPERATOR_WIDTH];
     let Times { verified: page, peer: all_codes } = compare(
         || {
             let file = black_box(pages.next().expect("a cycle"));
@@ -331,7 +331,8 @@ fn operators(n: usize) -> Times {
     let found = n.min(100);
     let mut ours = files.iter().cycle();
     let mut theirs = files.iter().cycle();
-    let (mut our_rows, mut their_rows) = ([0; 100 * 40], [peer::Operator::default(); 100]);
+    let (mut our_rows, mut their_rows) =
+        ([0; 100 * raw::OPERATOR_WIDTH], [peer::Operator::default(); 100]);
     compare(
         || {
             let file = black_box(ours.next().expect("a cycle"));

@@ -130,7 +130,10 @@ fn short_decimal(text: &str, signed: bool) -> String {
 pub fn headers() -> Vec<Record> {
     let filled = |index: usize| {
         let mut header = Header { unique: Some(index as i64), ..empty_header(index as i64) };
-        put(&mut header.content, &format!("Base stations and repeaters, list {index} of the owner"));
+        put(
+            &mut header.content,
+            &format!("Base stations and repeaters, list {index} of the owner"),
+        );
         put(&mut header.email, &format!("frequency_{index}@railway.example"));
         put(&mut header.telephone, &format!("+43 (1) 5550-{index:04}"));
         put(&mut header.person, &format!("M. Muster-{index}"));

@@ -139,9 +139,6 @@ pub struct Operator {
 /// The most operators that a file can have: each is two digits.
 pub const MAX_OPERATORS: usize = 100;
 
-/// The bytes of a row at the boundary.
-const OPERATOR_WIDTH: usize = 40;
-
 /// Puts a row for each operator of a file into the lent rows, ascending by code, and answers how
 /// many there are; rows past the last keep what they held. Refusals: 1, 2, 17.
 ///
@@ -157,24 +154,29 @@ const OPERATOR_WIDTH: usize = 40;
 /// # Ok::<(), desk::Refusal>(())
 /// ```
 pub fn operators(file: &[u8], rows: &mut [Operator]) -> Result<usize, Refusal> {
-    let mut bytes = [0; MAX_OPERATORS * OPERATOR_WIDTH];
-    let room = rows.len().min(MAX_OPERATORS) * OPERATOR_WIDTH;
+    let mut bytes = [0; MAX_OPERATORS * raw::OPERATOR_WIDTH];
+    let room = rows.len().min(MAX_OPERATORS) * raw::OPERATOR_WIDTH;
     let (refusal, count) = raw::operators(file, &mut bytes[..room]);
-    for (row, columns) in rows.iter_mut().zip(bytes.chunks_exact(OPERATOR_WIDTH)).take(count) {
+    for (row, bytes) in rows.iter_mut().zip(bytes.chunks_exact(raw::OPERATOR_WIDTH)).take(count) {
         *row = Operator {
-            code: [columns[0], columns[1]],
-            stations: number(&columns[2..5]).unwrap_or(0) as u16,
-            transmitting: number(&columns[5..8]).unwrap_or(0) as u16,
-            lowest: number(&columns[8..24]),
-            highest: number(&columns[24..]),
+            code: [bytes[0], bytes[1]],
+            stations: number(&bytes[2..4]) as u16,
+            transmitting: number(&bytes[4..6]) as u16,
+            lowest: frequency(&bytes[6..14]),
+            highest: frequency(&bytes[14..]),
         };
     }
     answer(refusal, 0, count)
 }
 
-/// The number in columns of digits; none where they are spaces.
-fn number(columns: &[u8]) -> Option<u64> {
-    columns.iter().try_fold(0, |v, digit| Some(v * 10 + u64::from(digit.checked_sub(b'0')?)))
+/// The number in bytes, high byte first.
+fn number(bytes: &[u8]) -> u64 {
+    bytes.iter().fold(0, |v, byte| v << 8 | u64::from(*byte))
+}
+
+/// The frequency in bytes; none where they are spaces, which are no frequency's bytes.
+fn frequency(bytes: &[u8]) -> Option<u64> {
+    (bytes != [b' '; 8]).then(|| number(bytes))
 }
 
 /// What a run of saves was: how many were accepted and refused, and which one stopped it.

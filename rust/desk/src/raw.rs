@@ -211,6 +211,9 @@ pub fn verify(file: &[u8], sheet: &[u8]) -> (u8, u8, usize) {
     (refusal, found, offset)
 }
 
+/// The bytes of a row of `desk_operators`.
+pub const OPERATOR_WIDTH: usize = 22;
+
 /// `desk_operators`: the refusal and the number of rows.
 pub fn operators(file: &[u8], out: &mut [u8]) -> (u8, usize) {
     let mut count = NO_COUNT;

@@ -4,12 +4,10 @@
 use peer::{Record, MAX_FILE_LENGTH, MAX_STATIONS, RECORD_LENGTH, STATION_FIELDS};
 
 use crate::calls::Comparison;
+use crate::oracle::OPERATOR_WIDTH as WIDTH;
 use crate::random::Random;
 use crate::records;
 use crate::runs::Pool;
-
-/// The bytes of a row.
-const WIDTH: usize = 40;
 
 /// The lowest and the highest transmit frequency of each unit, and one between them.
 const ENDS: [(&[u8; 11], u8); 7] = [
@@ -61,8 +59,11 @@ pub fn ends(comparison: &mut Comparison, random: &mut Random) {
     }
     let rows = pages(comparison, random, &file);
     assert_eq!(rows.len(), 100 * WIDTH, "every operator has its row");
-    assert_eq!(&rows[..WIDTH], b"0000200299999999990000009999999999000000");
-    assert_eq!(&rows[99 * WIDTH..], b"9900200200000000000000010000000000000001");
+    // 9,999,999,999,000,000 is 0x2386f26fb1bdc0
+    let most = b"\x00\x23\x86\xf2\x6f\xb1\xbd\xc0";
+    let least = b"\0\0\0\0\0\0\0\x01";
+    assert_eq!(rows[..WIDTH], [b"00\0\x02\0\x02", &most[..], most].concat());
+    assert_eq!(rows[99 * WIDTH..], [b"99\0\x02\0\x02", &least[..], least].concat());
 }
 
 /// Compares the pages of a file with rooms of several sizes; answers the rows.

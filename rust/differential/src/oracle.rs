@@ -24,18 +24,22 @@ pub fn verify(file: &[u8], sheet: &[u8]) -> (u8, u8, usize) {
     }
 }
 
-/// `desk_operators`: rows of forty bytes in fixed columns.
+/// The bytes of a row of `desk_operators`.
+pub const OPERATOR_WIDTH: usize = 22;
+
+/// `desk_operators`: the code, two counts and two frequencies, each number with its high byte first.
 pub fn operators(file: &[u8], out: &mut [u8]) -> (u8, usize) {
-    let mut rows = vec![Operator::default(); out.len() / 40];
+    let mut rows = vec![Operator::default(); out.len() / OPERATOR_WIDTH];
     let answer = peer::operators(file, &mut rows);
     let refusal = numbers(&answer).0;
     let count = answer.unwrap_or(0);
-    for (row, bytes) in rows[..count].iter().zip(out.chunks_exact_mut(40)) {
-        let code = std::str::from_utf8(&row.code).expect("two digits");
-        let sent = |v: Option<u64>| v.map_or(" ".repeat(16), |v| format!("{v:016}"));
-        let (lowest, highest) = (sent(row.lowest), sent(row.highest));
-        let text = format!("{code}{:03}{:03}{lowest}{highest}", row.stations, row.transmitting);
-        bytes.copy_from_slice(text.as_bytes());
+    for (row, bytes) in rows[..count].iter().zip(out.chunks_exact_mut(OPERATOR_WIDTH)) {
+        let sent = |v: Option<u64>| v.map_or([b' '; 8], u64::to_be_bytes);
+        bytes[..2].copy_from_slice(&row.code);
+        bytes[2..4].copy_from_slice(&row.stations.to_be_bytes());
+        bytes[4..6].copy_from_slice(&row.transmitting.to_be_bytes());
+        bytes[6..14].copy_from_slice(&sent(row.lowest));
+        bytes[14..].copy_from_slice(&sent(row.highest));
     }
     (refusal, count)
 }
