@@ -1,6 +1,7 @@
 /*
  * The desk from C: a filing judged, a field shown, a station replaced, the sheet mended with its
- * twin gone and a clash come, and verified, and a station as a line of a semicolon list.
+ * twin gone and a clash come, and verified, a station as a line of a semicolon list, and the page
+ * of the operators.
  *
  *     tools/hostlib target/host
  *     cc -Iinclude docs/example.c target/host/libdesk_c.a -o target/host/example
@@ -8,6 +9,7 @@
  */
 #include "desk.h"
 
+#include <inttypes.h>
 #include <stdio.h>
 #include <string.h>
 
@@ -19,6 +21,15 @@ static void print_bytes(const uint8_t *bytes, size_t length)
 {
     for (size_t i = 0; i < length; i++)
         printf("%02X%c", bytes[i], i + 1 < length ? ' ' : '\n');
+}
+
+/* The number in bytes, high byte first. */
+static uint64_t number(const uint8_t *bytes, size_t length)
+{
+    uint64_t value = 0;
+    for (size_t i = 0; i < length; i++)
+        value = value << 8 | bytes[i];
+    return value;
 }
 
 int main(int count, char **words)
@@ -96,5 +107,19 @@ int main(int count, char **words)
     *(uint8_t *)memchr(line, ';', line_length) = ' ';
     refusal = desk_list_in(line, line_length, record, sizeof record, &code);
     printf("refused %u, code %u\n", refusal, code);
+
+    /* Each operator has a row; its frequencies are spaces where none of its stations transmits. */
+    uint8_t page[DESK_MAX_OPERATORS * DESK_OPERATOR_WIDTH];
+    size_t operators;
+    refusal = desk_operators(file, length, page, sizeof page, &operators);
+    printf("refused %u, operators %zu\n", refusal, operators);
+    for (size_t i = 0; i < operators; i++) {
+        const uint8_t *row = page + i * DESK_OPERATOR_WIDTH;
+        printf("%c%c: %" PRIu64 " stations", row[0], row[1], number(row + 2, 2));
+        if (number(row + 4, 2) > 0)
+            printf(", %" PRIu64 " to %" PRIu64 " hundredths of a hertz", number(row + 6, 8),
+                   number(row + 14, 8));
+        putchar('\n');
+    }
     return 0;
 }
