@@ -6,7 +6,7 @@ use columns::texts::byte;
 use numerals::{Whole, amount_of, read_whole, says_number};
 
 // One half of 4C as it stands in its columns.
-#[derive(Drop)]
+#[derive(Clone, Copy)]
 pub struct Arc {
     pub degrees: Whole,
     pub letter: u8,

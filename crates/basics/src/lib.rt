@@ -5,14 +5,14 @@ pub mod places;
 pub mod rules;
 
 // A field's first column, counted from 1, and its length.
-#[derive(Drop)]
+#[derive(Clone, Copy)]
 pub struct Place {
     pub first: usize,
     pub length: usize,
 }
 
 // A call is done, or refused for the lowest reason that applies to it.
-#[derive(Drop)]
+#[derive(Clone, Copy)]
 pub enum Outcome {
     Done,
     FileTooLong,

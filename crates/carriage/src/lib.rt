@@ -11,7 +11,7 @@ use station_groups::{Channel, Coordination, Emission, Site};
 use vehicle_names::name_of;
 
 // How building ended, and the station: the carriage's, or on a refusal the empty one.
-#[derive(Drop)]
+#[derive(Clone, Copy)]
 pub struct Built {
     pub outcome: Outcome,
     pub station: Station,

@@ -13,14 +13,14 @@ use stations::reference;
 use words::{equal_words, word};
 
 // What stations are looked up by: all of 13X, or operator and site in it.
-#[derive(Drop)]
+#[derive(Clone, Copy)]
 pub enum Key {
     Reference,
     Site,
 }
 
 // Who takes part: all stations, or those of two sites, which are given as numbers.
-#[derive(Drop)]
+#[derive(Clone, Copy)]
 pub struct Scope {
     pub all: bool,
     pub one: u64,

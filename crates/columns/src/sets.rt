@@ -3,7 +3,7 @@ ghost use Rattle.std.specs.Prelude.{◌≡◌, ◌&&◌, leb};
 ghost use Rattle.columns.specs.Sets.{is_digit, is_upper, is_hex, is_narrow, is_text, is_name, is_mail, set_of};
 
 // A set of bytes that a column may be of.
-#[derive(Drop)]
+#[derive(Clone, Copy)]
 pub enum Set {
     Digit,
     Upper,

@@ -138,7 +138,7 @@ pub fn write_text(s: &mut [u8], t: &[u8]) -> bool
     if s.len() != t.len() {
         return false;
     }
-    bytes::copy(t, s);
+    s.copy_from_slice(t);
     true
 }
 

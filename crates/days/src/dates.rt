@@ -12,7 +12,7 @@ use flaws::{Flaw, unread_of};
 use numerals::number_of;
 
 // A day of the calendar as it is filed.
-#[derive(Drop)]
+#[derive(Clone, Copy)]
 pub struct Date {
     pub day: u8,
     pub month: u8,
@@ -20,7 +20,7 @@ pub struct Date {
 }
 
 // A date, read from its columns, or what is wrong with them.
-#[derive(Drop)]
+#[derive(Clone, Copy)]
 pub enum Dated {
     Bad(Flaw),
     Blank,
@@ -28,7 +28,7 @@ pub enum Dated {
 }
 
 // A date that may be left out.
-#[derive(Drop)]
+#[derive(Clone, Copy)]
 pub enum Day {
     Blank,
     Filled(Date),

@@ -25,9 +25,9 @@ fn report_space() -> [u8; 12288]
 }
 
 // Reads at most that much of the file, and writes all of its report, or says what it could not do.
-fn main() {
+fn main(rt: HostRuntime) {
     let mut file = file_space();
-    let taken = read_input(&mut file);
+    let taken = read_input(&mut rt.stdin(), &mut file);
     if !taken.whole {
         io::write_all(2, b"not read\n");
         return;

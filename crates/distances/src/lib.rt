@@ -9,15 +9,15 @@ use numerals::{Signed, amount_of, read_whole, says_number};
 use signed_numerals::read_signed;
 
 // A radius, 4D.
-#[derive(Drop)]
+#[derive(Clone, Copy)]
 pub struct Kilometres(pub u64);
 
 // A height above sea, 4Z, or above ground, 9Y.
-#[derive(Drop)]
+#[derive(Clone, Copy)]
 pub struct Metres(pub i64);
 
 // A height that may be left out, 4Z.
-#[derive(Drop)]
+#[derive(Clone, Copy)]
 pub enum Height {
     Blank,
     Filled(Metres),

@@ -4,7 +4,7 @@ pub mod fields;
 pub mod marking;
 
 // The marks of a line: how many semicolons and line feeds it has, and whether a line feed is its last byte.
-#[derive(Drop)]
+#[derive(Clone, Copy)]
 pub struct Marks {
     pub semicolons: usize,
     pub feeds: usize,
@@ -13,7 +13,7 @@ pub struct Marks {
 
 // A field that is longer than its columns: its number from 1, how many bytes it has, and how many it may have; all 0 where there
 // is none.
-#[derive(Drop)]
+#[derive(Clone, Copy)]
 pub struct LongField {
     pub number: usize,
     pub length: usize,

@@ -8,7 +8,7 @@ use columns::sets::Set;
 use columns::texts::all_in;
 
 // What is wrong with a field: nothing; a byte that it admits at no place; a value outside its range; a shape that cannot be read; or it lies between fields.
-#[derive(Drop)]
+#[derive(Clone, Copy)]
 pub enum Flaw {
     None,
     Byte,

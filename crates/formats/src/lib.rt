@@ -9,7 +9,7 @@ use numerals::Signed;
 use signed_numerals::{after_sign, has_minus, in_sign};
 
 // The field that a decimal stands in: it decides the digits before the point and after it, and the sign.
-#[derive(Drop)]
+#[derive(Clone, Copy)]
 pub enum Format {
     Frequency,
     Power,
@@ -19,7 +19,7 @@ pub enum Format {
 }
 
 // A number of tenths (of a dBW, a degree or a dB), or none. Blank is never zero.
-#[derive(Drop)]
+#[derive(Clone, Copy)]
 pub enum Tenths {
     Blank,
     Filled(i64),

@@ -11,7 +11,7 @@ use numeral_writing::{fits_whole, magnitude};
 use numerals::Signed;
 
 // What a frequency counts 1/100000 of: a kilohertz, a megahertz or a gigahertz.
-#[derive(Drop)]
+#[derive(Clone, Copy)]
 pub enum Hertz {
     Kilo,
     Mega,
@@ -19,7 +19,7 @@ pub enum Hertz {
 }
 
 // A frequency with its unit, or none.
-#[derive(Drop)]
+#[derive(Clone, Copy)]
 pub enum Frequency {
     Blank,
     Filled(u64, Hertz),

@@ -5,7 +5,7 @@ pub mod lines;
 
 // What is kept of a line beside its first bytes: how many of them the buffer holds, how many semicolons and line feeds the
 // line has, counted no further than matters, and its last byte.
-#[derive(Drop)]
+#[derive(Clone, Copy)]
 pub struct Gathered {
     pub held: usize,
     pub semicolons: usize,

@@ -5,7 +5,7 @@ use serials::Serial;
 pub mod typed;
 
 // The header of a file, field by field; the fax is judged in its record and not kept.
-#[derive(Drop)]
+#[derive(Clone, Copy)]
 pub struct Header {
     pub number: u64,
     pub content: [u8; 80],

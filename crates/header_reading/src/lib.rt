@@ -15,7 +15,7 @@ use numerals::amount_in;
 use serials::serial_in;
 
 // How reading ended, and the header: the empty one on a refusal.
-#[derive(Drop)]
+#[derive(Clone, Copy)]
 pub struct ReadHeader {
     pub outcome: Outcome,
     pub header: Header,

@@ -6,7 +6,7 @@ ghost use Rattle.hundredths.specs.Hundredths.{step_of, hundredths_of, lower_of, 
 use frequencies::{Frequency, Hertz};
 
 // A frequency in hundredths of a hertz, or none.
-#[derive(Drop)]
+#[derive(Clone, Copy)]
 pub enum Hundredths {
     Blank,
     Filled(u64),

@@ -12,7 +12,7 @@ fn keep(s: &mut [u8], t: &[u8])
         write_blank(s);
         return;
     }
-    bytes::copy(t, s);
+    s.copy_from_slice(t);
 }
 
 // The text of two columns.

@@ -5,7 +5,7 @@ ghost use Rattle.gathering.specs.Promises.{LineEnded};
 pub fn line_end(text: &[u8]) -> usize
     ensures { LineEnded text.now result }
 {
-    let at = bytes::scan::find(text, 0, text.len(), 10);
+    let at = text.iter().position(|b| *b == 10).unwrap_or(text.len());
     if at < text.len() {
         return at + 1;
     }

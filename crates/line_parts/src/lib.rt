@@ -37,6 +37,6 @@ pub fn hold(buffer: &mut [u8], held: usize, part: &[u8]) -> usize
         return buffer.len();
     }
     let end = sum_to(buffer.len(), held, part.len());
-    bytes::copy(&part[..end - held], &mut buffer[held..end]);
+    buffer[held..end].copy_from_slice(&part[..end - held]);
     end
 }

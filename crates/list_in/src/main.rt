@@ -15,10 +15,11 @@ use gathering::Gathered;
 use gathering::lines::nothing;
 use line_ends::line_end;
 use line_gathering::gather;
+use std::io::Read;
 
 // How far the list is read: what is kept of the line that is gathered, how many lines have ended, how many of them were
 // written as records and refused, and whether more may come.
-#[derive(Drop)]
+#[derive(Clone, Copy)]
 struct Progress {
     gathered: Gathered,
     lines: u64,
@@ -154,13 +155,12 @@ fn break_off(progress: Progress) -> Progress {
 }
 
 // Reads the next piece and takes it in.
-fn read_piece(line: &mut [u8; 250], progress: Progress) -> Progress {
+fn read_piece<R: Read>(input: &mut R, line: &mut [u8; 250], progress: Progress) -> Progress {
     let mut space = io::buffer();
-    let got = libc::read(0, &mut space);
-    if got < 0 {
-        return break_off(progress);
-    }
-    let n = io::count(got, &space);
+    let n = match input.read(&mut space) {
+        Ok(n) => n,
+        Err(_) => return break_off(progress),
+    };
     if n == 0 {
         return Progress {
             more: false,
@@ -171,12 +171,12 @@ fn read_piece(line: &mut [u8; 250], progress: Progress) -> Progress {
 }
 
 // Reads all pieces. Nothing says that the input ends, so the turns are counted down from a number that no run uses up.
-fn read_all(line: &mut [u8; 250], progress: Progress) -> Progress {
+fn read_all<R: Read>(input: &mut R, line: &mut [u8; 250], progress: Progress) -> Progress {
     let mut further = progress;
     let mut turns = u64::MAX;
     while 0 < turns {
         turns -= 1;
-        further = read_piece(line, further);
+        further = read_piece(input, line, further);
         if !further.more {
             return further;
         }
@@ -193,7 +193,7 @@ fn end_list(line: &[u8; 250], progress: Progress) -> Progress {
 }
 
 // Reads the list to its end, and says how many records were written and how many lines refused.
-fn main() {
+fn main(rt: HostRuntime) {
     let mut line = [0u8; 250];
     let start = Progress {
         gathered: nothing(),
@@ -202,7 +202,7 @@ fn main() {
         refused: 0,
         more: true,
     };
-    let read = read_all(&mut line, start);
+    let read = read_all(&mut rt.stdin(), &mut line, start);
     let done = end_list(&line, read);
     io::write_all(2, b"records ");
     io::print_decimal(2, done.records);

@@ -3,14 +3,14 @@ use basics::Outcome;
 use station::Station;
 
 // How reading a line ends, and the station; on a refusal the empty one.
-#[derive(Drop)]
+#[derive(Clone, Copy)]
 pub struct ReadLine {
     pub outcome: Outcome,
     pub station: Station,
 }
 
 // How writing a line ends, and the line's length; 0 on a refusal.
-#[derive(Drop)]
+#[derive(Clone, Copy)]
 pub struct WrittenLine {
     pub outcome: Outcome,
     pub length: usize,

@@ -9,7 +9,7 @@ use columns::texts::{byte, spaces};
 use flaws::Flaw;
 
 // A whole number, read from its columns.
-#[derive(Drop)]
+#[derive(Clone, Copy)]
 pub enum Whole {
     Bad,
     Blank,
@@ -17,7 +17,7 @@ pub enum Whole {
 }
 
 // A number with a sign, read from its columns: metres, or units of the last decimal place; or what is wrong with them.
-#[derive(Drop)]
+#[derive(Clone, Copy)]
 pub enum Signed {
     Bad(Flaw),
     Blank,
@@ -25,7 +25,7 @@ pub enum Signed {
 }
 
 // Digits that were read: what they say, and how many there are.
-#[derive(Drop)]
+#[derive(Clone, Copy)]
 pub struct Taken {
     pub value: u64,
     pub count: usize,

@@ -9,14 +9,14 @@ use numerals::number_of;
 use stations::{code, operator, transmit};
 
 // What is heard of a station: nothing where it breaks a rule, else its operator's number and its transmit frequency.
-#[derive(Drop)]
+#[derive(Clone, Copy)]
 pub enum Heard {
     Nothing,
     Station(usize, Hundredths),
 }
 
 // What is counted of an operator: its stations, those with a transmit frequency, and the lowest and the highest of these.
-#[derive(Drop)]
+#[derive(Clone, Copy)]
 pub struct Tally {
     pub stations: u16,
     pub transmitting: u16,

@@ -9,7 +9,7 @@ use numeral_writing::put_whole;
 use printing::pieces::put_text;
 
 // The digits of a fraction, and how many there are.
-#[derive(Drop)]
+#[derive(Clone, Copy)]
 struct Fraction {
     places: usize,
     digits: u64,

@@ -13,21 +13,21 @@ use hundredths::Hundredths;
 use operator_counts::{OPERATORS, Tally, tallies};
 
 // A row of a page: the operator's code, two digits, and what is counted of it.
-#[derive(Drop)]
+#[derive(Clone, Copy)]
 pub struct OperatorRow {
     pub code: [u8; 2],
     pub tally: Tally,
 }
 
 // How a page ended, and how many rows it has.
-#[derive(Drop)]
+#[derive(Clone, Copy)]
 pub struct PageAnswer {
     pub outcome: Outcome,
     pub rows: usize,
 }
 
 // A page by value: its answer, and its rows in front of blank ones.
-#[derive(Drop)]
+#[derive(Clone, Copy)]
 pub struct Page {
     pub answer: PageAnswer,
     pub rows: [OperatorRow; OPERATORS],

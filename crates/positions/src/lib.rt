@@ -9,14 +9,14 @@ use arcs::{Arc, arc_in, arc_seconds, is_arc, reads_arc};
 use flaws::{Flaw, unread_of};
 
 // A place on the ground in seconds of arc, east and north positive.
-#[derive(Drop)]
+#[derive(Clone, Copy)]
 pub struct Position {
     pub east: i64,
     pub north: i64,
 }
 
 // A position, read from its columns, or what is wrong with them.
-#[derive(Drop)]
+#[derive(Clone, Copy)]
 pub enum Located {
     Bad(Flaw),
     Filled(Position),

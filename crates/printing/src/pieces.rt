@@ -12,7 +12,7 @@ pub fn put_text(out: &mut [u8], start: usize, text: &[u8]) -> usize
     ensures { Appended out.old start text.now out.new result }
 {
     let end = start + text.len();
-    bytes::copy(text, &mut out[start..end]);
+    out[start..end].copy_from_slice(text);
     end
 }
 

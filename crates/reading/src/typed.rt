@@ -14,7 +14,7 @@ use judging::check_station;
 use station::Station;
 
 // How reading ended, and the station: the empty one on a refusal.
-#[derive(Drop)]
+#[derive(Clone, Copy)]
 pub struct ReadStation {
     pub outcome: Outcome,
     pub station: Station,

@@ -18,7 +18,7 @@ use stations::site;
 use trailers::{fits_trailer, put_trailer};
 
 // How a replacement ended, and how many rows it wrote.
-#[derive(Drop)]
+#[derive(Clone, Copy)]
 pub struct Replaced {
     pub outcome: Outcome,
     pub rows: usize,
@@ -31,7 +31,7 @@ fn put_record(file: &mut [u8], k: usize, rec: &[u8])
 {
     let start = RECORD_LENGTH * k;
     let end = start + RECORD_LENGTH;
-    bytes::copy(rec, &mut file[start..end]);
+    file[start..end].copy_from_slice(rec);
 }
 
 // Puts in a header, and judges its code anew; no row is written.
@@ -55,7 +55,7 @@ fn replace_station(file: &mut [u8], sheet: &mut [u8], n: usize, k: usize, rec: &
     ensures sheet_after { sheet.new ≡ mended_sheet n file.old sheet.old k rec.now }
 {
     let mut old = [0u8; 6];
-    bytes::copy(site(file, k), &mut old);
+    old.copy_from_slice(site(file, k));
     let head = head_code(sheet, n);
     put_record(file, k, rec);
     let written = mend_rows(file, sheet, n, k, &old);

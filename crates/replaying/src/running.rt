@@ -17,7 +17,7 @@ use sheet_judging::judge;
 use traces::{SAVE_LENGTH, SAVED_DIGITS, can_run, save_from};
 
 // How running a trace ended: the saves that were accepted and refused, and the save that it stopped at, counted from 1, or 0.
-#[derive(Drop)]
+#[derive(Clone, Copy)]
 pub struct Replayed {
     pub outcome: Outcome,
     pub accepted: usize,

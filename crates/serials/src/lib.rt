@@ -7,7 +7,7 @@ use numeral_writing::{fits_whole, put_whole};
 use numerals::{Whole, read_whole};
 
 // A file number that may be left out.
-#[derive(Drop)]
+#[derive(Clone, Copy)]
 pub enum Serial {
     Blank,
     Filled(u64),

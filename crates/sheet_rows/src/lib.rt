@@ -20,7 +20,7 @@ fn put_row(sheet: &mut [u8], row: [u8; ROW_WIDTH], i: usize)
 {
     let start = ROW_WIDTH * i;
     let end = start + ROW_WIDTH;
-    bytes::copy(&row, &mut sheet[start..end]);
+    sheet[start..end].copy_from_slice(&row);
 }
 
 // Writes the rows in scope of n stations from a number on, and answers how many; those before it are entered only.

@@ -5,7 +5,7 @@ pub mod setting;
 pub mod typed;
 
 // One station of a list.
-#[derive(Drop)]
+#[derive(Clone, Copy)]
 pub struct Station {
     pub channel: Channel,
     pub site: Site,

@@ -10,7 +10,7 @@ use formats::Tenths;
 use station_groups::{Antenna, Emission, Site};
 
 // How setting ended, and the station: the changed one, or on a refusal the one that was given.
-#[derive(Drop)]
+#[derive(Clone, Copy)]
 pub struct Settled {
     pub outcome: Outcome,
     pub station: Station,

@@ -19,7 +19,7 @@ use symbol_flaws::{
 use symbols::{is_basis, is_carrier, is_category};
 
 // How reading a record ends, and the flaw that comes with its code.
-#[derive(Drop)]
+#[derive(Clone, Copy)]
 pub struct Explained {
     pub outcome: Outcome,
     pub flaw: Flaw,

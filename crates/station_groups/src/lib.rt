@@ -6,7 +6,7 @@ use frequencies::Frequency;
 use positions::Position;
 
 // What is sent, and for whom: 1A with its unit, 1Z, 6A, 6B, 6Z and 10Z.
-#[derive(Drop)]
+#[derive(Clone, Copy)]
 pub struct Channel {
     pub transmit: Frequency,
     pub category: u8,
@@ -17,7 +17,7 @@ pub struct Channel {
 }
 
 // Where, and since when: 2C, 4A, 4B, 4C, 4D and 4Z.
-#[derive(Drop)]
+#[derive(Clone, Copy)]
 pub struct Site {
     pub started: Day,
     pub name: [u8; 20],
@@ -28,7 +28,7 @@ pub struct Site {
 }
 
 // How it is sent: 7A, 8B1, 8B2, 9A and 9B.
-#[derive(Drop)]
+#[derive(Clone, Copy)]
 pub struct Emission {
     pub designation: [u8; 9],
     pub power: Tenths,
@@ -38,7 +38,7 @@ pub struct Emission {
 }
 
 // From which antenna: 9D, 9G, 9Y, 9XH and 9XV.
-#[derive(Drop)]
+#[derive(Clone, Copy)]
 pub struct Antenna {
     pub polarisation: [u8; 2],
     pub gain: Tenths,
@@ -48,7 +48,7 @@ pub struct Antenna {
 }
 
 // What is received, and how it was filed: 1Y with its unit, 13Z, 13Y, 2W, 2Z and 13X.
-#[derive(Drop)]
+#[derive(Clone, Copy)]
 pub struct Coordination {
     pub receive: Frequency,
     pub remarks: [u8; 50],

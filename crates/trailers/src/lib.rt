@@ -104,7 +104,7 @@ pub fn put_trailer(sheet: &mut [u8], n: usize, head: u8)
 {
     let trailer = standing_trailer(sheet, n, head);
     let end = ROW_WIDTH * n;
-    bytes::copy(&trailer, &mut sheet[end..]);
+    sheet[end..].copy_from_slice(&trailer);
 }
 
 // Whether the distance and width that stand at a place, and the mark that ends the sheet, are these.

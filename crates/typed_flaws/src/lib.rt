@@ -24,7 +24,7 @@ use typed_antenna_flaws::typed_antenna_flaw;
 use typed_channel_flaws::typed_channel_flaw;
 
 // The first broken code of a typed station, and its flaw.
-#[derive(Drop)]
+#[derive(Clone, Copy)]
 pub struct TypedExplained {
     pub code: u8,
     pub flaw: Flaw,

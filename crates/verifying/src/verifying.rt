@@ -8,7 +8,7 @@ use files::lengths::stations_in;
 use sheet_judging::judge_outcome;
 
 // What is found of a sheet: nothing, since the call is refused; that it is right; or the offset, from 0, of its first wrong byte.
-#[derive(Drop)]
+#[derive(Clone, Copy)]
 pub enum Finding {
     Refused,
     Right,
@@ -16,7 +16,7 @@ pub enum Finding {
 }
 
 // How verifying ended, and what it found.
-#[derive(Drop)]
+#[derive(Clone, Copy)]
 pub struct Verified {
     pub outcome: Outcome,
     pub finding: Finding,

@@ -12,7 +12,7 @@ use flaws::Flaw;
 use number_flaws::range_flaw;
 
 // What a walk found: the first broken code, 0 where none is, and its flaw.
-#[derive(Drop)]
+#[derive(Clone, Copy)]
 pub struct Found {
     pub code: usize,
     pub flaw: Flaw,

@@ -17,7 +17,7 @@ fn name_after(names: &[u8], i: usize) -> [u8; 10]
     let from = 10 * i;
     let to = from + 10;
     let mut name = [b' '; 10];
-    bytes::copy(&names[from..to], &mut name);
+    name.copy_from_slice(&names[from..to]);
     name
 }
 
