@@ -1,0 +1,12 @@
+-- `changing::change_height` meets its contract.
+use Rattle.station.specs.Setting.{with_height}
+use Rattle.changing.proofs.ChangeLaws.{may_put, settled_record}
+use Rattle.changing.proofs.change_height.Goals as goal
+
+pub settle_record-requires : goal.settle_record-requires
+settle_record-requires c =
+    may_put (λ s. with_height s c.args.v) c.args.rec.now c.read_station-read.result c.set_height.result c.read_station-read.ensures c.set_height.ensures
+
+pub returns : goal.returns
+returns c =
+    settled_record (λ s. with_height s c.args.v) c.args.rec.now c.read_station-read.result c.set_height.result c.read_station-read.ensures c.set_height.ensures c.settle_record.ensures

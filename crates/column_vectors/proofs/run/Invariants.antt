@@ -1,0 +1,10 @@
+-- `column_vectors::run` is safe and ends: it goes on by at least one byte each turn.
+use Prim.Native.Nat.{◌-◌, ◌≤◌}
+use lib.ListN.{length}
+use Rattle.column_vectors.proofs.run.Given as goal
+
+abbrev pub invariant-loop-at : goal.invariant-loop-at
+invariant-loop-at l = (at ≤ length l.s) × (count ≤ at)
+
+abbrev pub decreases-loop-at : goal.decreases-loop-at
+decreases-loop-at l = length l.s - at

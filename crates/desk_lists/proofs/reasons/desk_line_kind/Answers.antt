@@ -1,0 +1,10 @@
+-- `desk_lists::reasons::desk_line_kind` meets its contract.
+use mathlib.Core.Path.{ap, ◌∙◌}
+use Rattle.answers.proofs.EndingLaws.{answered}
+use Rattle.flaws.specs.Flaws.{flaw_number}
+use Rattle.flaws.specs.declared.Flaw.{Flaw}
+use Rattle.desk_lists.proofs.reasons.desk_line_kind.Goals as goal
+
+pub returns : goal.returns
+returns c =
+    (answered c.answer.ensures c.explain_line-told.ensures.0, c.flaw_number.ensures ∙ ap (λ (x : Flaw). flaw_number x) c.explain_line-told.ensures.1)

@@ -1,0 +1,8 @@
+-- `files::lengths::stations_in` meets its contract.
+use Rattle.files.specs.Files.{stations}
+use native.Mathlib.Omega.{arith}
+use Rattle.files.proofs.lengths.stations_in.Goals as goal
+
+pub returns-then-records-eq0 : goal.returns-then-records-eq0
+unfolding stations
+returns-then-records-eq0 c = omega arith

@@ -1,0 +1,10 @@
+-- `forms::readers::row_twin` meets its contract.
+use mathlib.Core.Path.{ap, ◌∙◌}
+use mathlib.Core.List.{List}
+use Prim.Native.Nat.{ℕ}
+use Rattle.forms.specs.Forms.{number_in}
+use Rattle.forms.specs.OwnForm.{form}
+use Rattle.forms.proofs.readers.row_twin.Goals as goal
+
+pub returns : goal.returns
+returns c = c.number.ensures ∙ ap (λ (t : List ℕ). number_in form t 0) c.row.ensures

@@ -1,0 +1,33 @@
+-- `header_reading::header_in` meets its contract: each field is read from its own columns.
+use Rattle.columns.proofs.TextLaws.{text_there}
+use lib.ListN.{length}
+use mathlib.Core.Path.{◌≡◌, ◌∙◌}
+use Rattle.header.specs.Places.{header_fields}
+use Rattle.header.specs.Values.{header_of}
+use Rattle.header.specs.Codes.{header_value}
+use native.Mathlib.Omega.{arith}
+use Rattle.header_reading.proofs.header_in.Goals as goal
+
+pub slice_bounds-text7-end : goal.slice_bounds-text7-end
+slice_bounds-text7-end c = omega (arith, c.requires)
+
+pub returns : goal.returns
+unfolding header_value header_of header_fields
+returns c =
+    let r = c.args.rec.now in
+    let l : length r ≡ 219 = c.requires in
+    λ k. record {
+      c = c.amount_in-number.ensures k;
+      c = (c.text80-content.ensures ∙ text_there 80 2 r (omega arith)) k;
+      c = c.byte-letter.ensures k;
+      c = (c.text3-origin.ensures ∙ text_there 3 83 r (omega arith)) k;
+      c = (c.text40-mail.ensures ∙ text_there 40 86 r (omega arith)) k;
+      c = (c.text20-telephone.ensures ∙ text_there 20 126 r (omega arith)) k;
+      c = (c.text20-person.ensures ∙ text_there 20 166 r (omega arith)) k;
+      c = c.amount_in-count.ensures k;
+      c = c.day_in-date.ensures k;
+      c = (c.text3-destination.ensures ∙ text_there 3 200 r (omega arith)) k;
+      c = c.serial_in-serial.ensures k;
+      c = (c.text3-version.ensures ∙ text_there 3 209 r (omega arith)) k;
+      c = (c.text7-reserve.ensures ∙ text_there 7 212 r (omega arith)) k;
+    }

@@ -1,0 +1,12 @@
+-- `operators::main` is safe and ends: what it writes is within what the page was written into.
+use mathlib.Core.Path.{sym}
+use lib.Seq.{length-take-le}
+use Rattle.printing.proofs.WriteLaws.{within}
+use borrow.Author.Rules.{rules}
+use Rattle.operators.proofs.main.Goals as goal
+
+pub slice_bounds-write_operators-end : goal.slice_bounds-write_operators-end
+slice_bounds-write_operators-end c = sym (length-take-le c.read_input-taken.result.bytes c.read_input-taken.new.input (search rules))
+
+pub slice_bounds-lines-end : goal.slice_bounds-lines-end
+slice_bounds-lines-end c = within _ _ c.write_operators-end.ensures

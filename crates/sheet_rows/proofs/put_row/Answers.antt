@@ -1,0 +1,22 @@
+-- `sheet_rows::put_row` meets its contract: the row stands in its own bytes, and the others are kept.
+use mathlib.Core.Path.{◌≡◌, ◌∙◌}
+use Prim.Native.Nat.{◌+◌, ◌*◌, ◌-◌}
+use native.Mathlib.Nat.{add-sub_cancel_left}
+use native.Mathlib.Omega.{arith}
+use lib.ListN.{length}
+use lib.Seq.{drop-drop}
+use borrow.Rule.Slice.PartMut.{mid_len, mid_of}
+use Rattle.forms.specs.OwnForm.{row_width}
+use Rattle.forms.proofs.CopyLaws.{copy_all}
+use borrow.Author.Rules.{rules}
+use Rattle.sheet_rows.proofs.put_row.Goals as goal
+
+pub returns : goal.returns
+returns c =
+    let s = c.args.sheet.now in
+    let start = row_width * c.args.i in
+    let t = c.args.row in
+    let e : start + row_width - start ≡ row_width = add-sub_cancel_left start row_width in
+    let l : length (mid_of start (start + row_width - start) s) ≡ length t = mid_len start (start + row_width) s (search rules) ∙ (omega arith) in
+    let f : c.copy_from_slice.new.src ≡ t = c.copy_from_slice.ensures.after ∙ copy_all t _ l in
+    rw (f, e, drop-drop row_width start s)
