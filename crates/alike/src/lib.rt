@@ -1,4 +1,6 @@
 // How far two texts are alike.
+#![tactic(auto)]
+
 ghost use Rattle.std.specs.Prelude.{◌≡◌};
 ghost use Rattle.alike.specs.Alike.{alike};
 

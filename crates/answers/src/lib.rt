@@ -1,4 +1,6 @@
 // What the boundary answers in numbers: how a call ended, and by which rules records are judged.
+#![tactic(auto)]
+
 ghost use Rattle.answers.specs.Endings.{Answered};
 ghost use Rattle.answers.specs.Rules.{RulesNumbered};
 

@@ -1,4 +1,6 @@
 // Arcs: one half of the coordinates 4C as it stands in its columns, degrees, a letter, minutes and seconds: its numbers, whether it keeps its rule, and its seconds in all.
+#![tactic(auto)]
+
 ghost use Rattle.std.specs.Prelude.{◌≡◌, false, ◌&&◌, ◌||◌, ◌+◌, ◌*◌, ◌^◌, ◌≤◌, ◌<◌, length, get_or, take, drop, leb, eqb};
 ghost use Rattle.numerals.specs.Numbers.{whole_of, whole_filled, amount, with_sign};
 

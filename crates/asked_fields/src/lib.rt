@@ -1,4 +1,6 @@
 // A field of a record, filled, blank or of no direction, asked where another field says so.
+#![tactic(auto)]
+
 ghost use Rattle.std.specs.Prelude.{◌≡◌, not};
 ghost use Rattle.columns.specs.Texts.{blank};
 ghost use Rattle.station_groups.specs.Asked.{round_antenna, never};

@@ -1,4 +1,5 @@
 // What stations, headers and sheets share: the place of a field, and how a call ends.
+#![tactic(auto)]
 
 pub mod outcomes;
 pub mod places;

@@ -1,4 +1,6 @@
 // The rules between fields, each of the groups of a typed station that it binds, and what they ask of single values.
+#![tactic(auto)]
+
 ghost use Rattle.std.specs.Prelude.{◌≡◌, not, eqb};
 ghost use Rattle.columns.specs.Sets.{is};
 ghost use Rattle.columns.specs.Texts.{bytes, head, trimmed, same, ends_in};

@@ -1,4 +1,6 @@
 // The days of the Gregorian calendar.
+#![tactic(auto)]
+
 ghost use Rattle.std.specs.Prelude.{◌≡◌};
 ghost use Rattle.calendar.specs.Calendar.{is_leap, days_in};
 

@@ -1,4 +1,6 @@
 // The station of a mobile repeater, named by its carriage: one station of defaults with a vehicle number's name and values of its own.
+#![tactic(auto)]
+
 ghost use Rattle.std.specs.Prelude.{◌≡◌, length};
 ghost use Rattle.vehicles.specs.Digits.{number_digits};
 ghost use Rattle.carriage.specs.Building.{carriage_of};

@@ -1,4 +1,6 @@
 // Building the station of a carriage, from a vehicle number and one station of defaults: what is refused, and what is handed out.
+#![tactic(auto)]
+
 ghost use Rattle.std.specs.Prelude.{◌≡◌};
 ghost use Rattle.station.specs.Values.{empty_station};
 ghost use Rattle.carriage.specs.Building.{are_defaults};

@@ -1,4 +1,6 @@
 // What is refused of a carriage's line and of its defaults, before a record is made of them.
+#![tactic(auto)]
+
 ghost use Rattle.std.specs.Prelude.{◌≡◌, length};
 ghost use Rattle.basics.specs.Outcomes.{first_refusal};
 ghost use Rattle.carriage_lines.specs.Lines.{is_mobile};

@@ -1,4 +1,6 @@
 // A carriage's line filed as a station's record, made from the record of the defaults.
+#![tactic(auto)]
+
 ghost use Rattle.std.specs.Prelude.{◌≡◌, true, length};
 ghost use Rattle.basics.specs.Outcomes.{if_done, judged};
 ghost use Rattle.station.specs.Codes.{value_of, station_code};

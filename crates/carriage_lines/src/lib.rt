@@ -1,4 +1,6 @@
 // A carriage's line, `number;frequency;unit;power;13X`: its fields, and how they are put into a station's record.
+#![tactic(auto)]
+
 ghost use Rattle.std.specs.Prelude.{◌≡◌, true, ◌≤◌, leb, length};
 ghost use Rattle.vehicles.specs.Digits.{number_digits};
 ghost use Rattle.semicolons.specs.Fields.{padded_field, none_longer};

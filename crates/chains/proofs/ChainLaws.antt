@@ -1,5 +1,5 @@
 -- Chains, over any search: the first bearer of a key is found down the chain of its slot, and how a station goes in front.
-use mathlib.Core.Path.{◌≡◌, refl, sym, ap, ◌∙◌}
+use mathlib.Core.Path.{◌≡◌, refl, sym, ap, subst, ◌∙◌}
 use mathlib.Core.Logic.{⊎_elim, dite}
 use mathlib.Core.Bool.{Bool, true, false, cond, true≢false, and-eq-true_iff, and-false}
 use mathlib.Core.List.{List}
@@ -222,7 +222,9 @@ module _ (s : Search) where
           nexts_size = length-set nexts (suc m) (get_or heads h₀ 0) ∙ so_far.nexts_size;
           tops = λ h l.
               dite (ℕ_discrete h h₀)
-              (λ e. rw e (get_or-set_same heads h₀ (suc m) 0 rh ∙ sym (last_here (chained s h₀) m (is_chained (suc m) h₀ on-lead refl))))
+              (λ e.
+              subst (λ (x : ℕ). get_or (set heads h₀ (suc m)) x 0 ≡ last (chained s x) (suc m)) (sym e)
+              (get_or-set_same heads h₀ (suc m) 0 rh ∙ sym (last_here (chained s h₀) m (is_chained (suc m) h₀ on-lead refl))))
               (λ ne. get_or-set_other heads h₀ h (suc m) 0 ne ∙ so_far.tops h l ∙ sym (last_past (chained s h) m (other_slot (suc m) h (λ q. ne (sym q)))));
           links = λ i h l on.
               ⊎_elim

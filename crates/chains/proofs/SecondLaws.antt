@@ -1,5 +1,5 @@
 -- Beside the first bearer of a key, the first that is unlike it: what they tell of one station more, and how they are kept.
-use mathlib.Core.Path.{◌≡◌, refl, sym, ◌∙◌}
+use mathlib.Core.Path.{◌≡◌, refl, sym, subst, ◌∙◌}
 use mathlib.Core.Logic.{◌⊎◌, inl, inr, ⊎_elim}
 use mathlib.Core.Bool.{Bool, true, false, cond, not, true≢false, and-eq-true_iff, and-false}
 use mathlib.Core.List.{List}
@@ -210,14 +210,15 @@ module _ (s : Search) (alike : ℕ → ℕ → Bool) (classes : Classes alike) w
               get_or-set_other seconds f g (suc m) 0 n ∙ so_far.right g l below on ∙ sym (first_past (apart s alike g) m (others_apart g l below on (λ e. n (sym e ∙ found))))
           at_leader g l below on (yes e) =
               let z : first (apart s alike f) m ≡ 0 = sym (so_far.right f there low (bearer_leads (suc m) f found there)) ∙ none in
-              rw e (own ∙ sym (first_here (apart s alike f) m z (unlike_apart f (suc m) (bears-same s f (suc m) t one_key) (unlike_sym f (suc m) a))))
+              subst (λ (x : ℕ). get_or (set seconds f (suc m)) x 0 ≡ first (apart s alike x) (suc m)) (sym e)
+              (own ∙ sym (first_here (apart s alike f) m z (unlike_apart f (suc m) (bears-same s f (suc m) t one_key) (unlike_sym f (suc m) a))))
 
     -- and one that leads has none yet.
     pub seconds_led : first_bearer s (suc m) ≡ 0 → suc m < record_numbers → Seconds s alike (set seconds (suc m) 0) (suc m)
     seconds_led none fits =
         record {
           size = length-set seconds (suc m) 0 ∙ so_far.size;
-          right = λ f l below on. ⊎_elim (λ q. let e : f ≡ suc m = q in rw e own) (λ b. let b' : f < suc m = b in before f l (omega arith) on) (eq-or-lt_of_le below);
+          right = λ f l below on. ⊎_elim (λ q. let e : f ≡ suc m = q in subst (λ (x : ℕ). get_or (set seconds (suc m) 0) x 0 ≡ first (apart s alike x) (suc m)) (sym e) own) (λ b. let b' : f < suc m = b in before f l (omega arith) on) (eq-or-lt_of_le below);
         }
       where
         own : get_or (set seconds (suc m) 0) (suc m) 0 ≡ first (apart s alike (suc m)) (suc m)

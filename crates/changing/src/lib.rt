@@ -1,4 +1,6 @@
 // A station's record with one value changed.
+#![tactic(auto)]
+
 ghost use Rattle.station.specs.Setting.{with_power, with_azimuth, with_elevation, with_height, with_ground};
 ghost use Rattle.changing.specs.Promises.{RecordChanged};
 

@@ -1,4 +1,6 @@
 // Clashes: stations of one operator and site that say different places or heights.
+#![tactic(auto)]
+
 ghost use Rattle.std.specs.Prelude.{◌≡◌, Bool, ℕ, ◌+◌, ◌-◌, ◌*◌, ◌≤◌, length};
 ghost use Rattle.basics.specs.Fields.{record_length};
 ghost use Rattle.files.specs.Files.{most_stations};

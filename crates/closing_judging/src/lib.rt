@@ -1,4 +1,6 @@
 // Codes 8 to 14 of a header's record, read in place: the person, the count, and how the file is filed.
+#![tactic(auto)]
+
 ghost use Rattle.std.specs.Prelude.{◌≡◌, length, drop};
 ghost use Rattle.basics.specs.Rules.{first_broken};
 ghost use Rattle.header.specs.Places.{header_fields};

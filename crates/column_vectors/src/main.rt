@@ -1,5 +1,7 @@
 // Runs column vectors: each is a letter for the kind of column, three digits for the width, a colon, the bytes and a
 // line feed. Prints for each what the library answers, and the columns that it writes of what it read.
+#![tactic(auto)]
+
 use columns::sets::Set;
 use days::dates::{Dated, Day};
 use formats::Format;

@@ -1,3 +1,5 @@
 // One column at a time: sets of bytes, blank, and text.
+#![tactic(auto)]
+
 pub mod sets;
 pub mod texts;

@@ -1,4 +1,6 @@
 // What is wrong with the last fields of a station's record: the flaw of the one field that a code from 24 on names.
+#![tactic(auto)]
+
 ghost use Rattle.std.specs.Prelude.{◌≡◌, ◌≤◌, length};
 ghost use Rattle.coordination_flaws.specs.Flaws.{record_flaw};
 

@@ -1,4 +1,6 @@
 // Rules 24 to 30 of a station's record, read in place: what is received, and how it was filed.
+#![tactic(auto)]
+
 ghost use Rattle.std.specs.Prelude.{◌≡◌, length};
 ghost use Rattle.basics.specs.Rules.{first_broken};
 ghost use Rattle.station.specs.Places.{fields_of};

@@ -1,4 +1,6 @@
 // Dates written in their columns.
+#![tactic(auto)]
+
 ghost use Rattle.std.specs.Prelude.{◌≡◌, cond, ◌&&◌, length};
 ghost use Rattle.columns.specs.Texts.{sized};
 ghost use Rattle.days.specs.Dates.{spell_date, day_fits, spell_day};

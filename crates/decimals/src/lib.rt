@@ -1,4 +1,6 @@
 // Decimals over the digits before the point and behind it, and the sign: read and written.
+#![tactic(auto)]
+
 ghost use Rattle.std.specs.Prelude.{◌≡◌, ◌++◌, length, take, ◌+◌, ◌-◌, ◌*◌, ◌^◌, ◌≤◌, ◌<◌};
 ghost use Rattle.decimals.specs.Decimals.{fraction_of, magnitude_of, spell_magnitude, spell_decimal, decimal_width};
 

@@ -1,10 +1,12 @@
 // The library for callers in C and Rust, its calls that tell where something stands in lent bytes, or how long it is, and judge no record: functions on
 // numbers and lent bytes, under names with the prefix `desk_`.
+#![tactic(auto)]
+
 ghost use Rattle.std.specs.Prelude.{◌≡◌, cond};
 ghost use Rattle.desk_locating.specs.Promises.{FieldLocated, NumberLocated, MarksTold, LongFieldTold};
 
 use basics::outcomes::{is_done, refusal_number};
-use faults::fields::long_field;
+use faults::long_fields::long_field;
 use faults::marking::{has_marks, line_marks};
 use places::field_place;
 use showing::show_outcome;

@@ -1,4 +1,6 @@
 // The library for callers in C and Rust, its call on the operators of a file, under a name with the prefix `desk_`.
+#![tactic(auto)]
+
 ghost use Rattle.std.specs.Prelude.{◌≡◌, ◌+◌, ◌*◌, ◌≤◌, length};
 ghost use Rattle.forms.specs.Forms.{number};
 ghost use Rattle.printing.specs.Promises.{Appended};

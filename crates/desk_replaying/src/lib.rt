@@ -1,4 +1,6 @@
 // The library for callers in C and Rust, its call that runs the day again: a function on numbers and lent bytes, under a name with the prefix `desk_`.
+#![tactic(auto)]
+
 ghost use Rattle.desk_replaying.specs.Promises.{FilingReplayed};
 
 use basics::outcomes::refusal_number;

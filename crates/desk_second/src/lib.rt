@@ -1,4 +1,6 @@
 // The library for callers in C and Rust, its call of the second judge.
+#![tactic(auto)]
+
 ghost use Rattle.desk_second.specs.Promises.{StationSecondTold};
 
 use answers::answer;

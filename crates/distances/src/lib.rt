@@ -1,4 +1,6 @@
 // Distances: the radius 4D, and the heights 4Z and 9Y. They are kept apart by their types.
+#![tactic(auto)]
+
 ghost use Rattle.std.specs.Prelude.{◌≡◌, length};
 ghost use Rattle.numerals.specs.Numbers.{whole_of, whole_filled};
 ghost use Rattle.distances.specs.Distances.{radius_of, radius_fits, spell_radius, ground_of, ground_fits, spell_ground, height_good, height_of, height_fits, spell_height};

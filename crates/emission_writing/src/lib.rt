@@ -1,4 +1,6 @@
 // A station's emission and antenna, columns 76 to 125, each field written straight into its own columns.
+#![tactic(auto)]
+
 ghost use Rattle.std.specs.Prelude.{◌≡◌, length, drop};
 ghost use Rattle.basics.specs.Fields.{joined};
 ghost use Rattle.station_groups.specs.Groups.{emission_pieces, antenna_pieces};

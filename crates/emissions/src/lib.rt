@@ -1,4 +1,6 @@
 // The designation of an emission, 7A: four places of bandwidth, then one symbol a place.
+#![tactic(auto)]
+
 ghost use Rattle.std.specs.Prelude.{◌≡◌, cond};
 ghost use Rattle.columns.specs.Sets.{is_digit, among};
 ghost use Rattle.columns.specs.Texts.{how_many};

@@ -1,4 +1,6 @@
 // The header and the station that a refused reading hands back.
+#![tactic(auto)]
+
 ghost use Rattle.empties.specs.Promises.{HeaderEmpty, StationEmpty};
 
 use days::dates::Day;

@@ -1,4 +1,6 @@
 // The flaw of a field by the numbers of its entry in a table: one function for each kind of entry, over any length, lowest, highest and blank.
+#![tactic(auto)]
+
 ghost use Rattle.std.specs.Prelude.{◌≡◌, ◌&&◌, ◌≤◌, leb};
 ghost use Rattle.columns.specs.Texts.{every};
 ghost use Rattle.entries.specs.Entries.{one_byte, between_entry, either_entry, unit_entry, plain_decimal, signed_decimal, kind_flaw, entry_flaw};

@@ -1,4 +1,6 @@
 // Explains a filing: reads it from standard input and prints, for each bad row, what is wrong with it.
+#![tactic(auto)]
+
 ghost use Rattle.std.specs.Prelude.{◌≡◌, ◌+◌, ◌*◌, length};
 ghost use Rattle.basics.specs.Fields.{record_length};
 ghost use Rattle.files.specs.Files.{most_stations};

@@ -1,4 +1,6 @@
 // What is explained of one row of a sheet: its line, with the field of a bad record, its bytes and what is wrong with it.
+#![tactic(auto)]
+
 ghost use Rattle.std.specs.Prelude.{◌≡◌, ◌+◌, ◌*◌, ◌≤◌, length};
 ghost use Rattle.files.specs.Files.{most_stations};
 ghost use Rattle.forms.specs.OwnForm.{row_width};

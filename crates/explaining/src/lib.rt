@@ -1,4 +1,6 @@
 // What is explained of a file: the lines of the sheet judged from it, each bad row with the field, its bytes and what is wrong with it.
+#![tactic(auto)]
+
 ghost use Rattle.std.specs.Prelude.{◌≡◌, true, ◌+◌, ◌*◌, ◌≤◌, length, eqb};
 ghost use Rattle.basics.specs.Outcomes.{refusal};
 ghost use Rattle.files.specs.Files.{stations, most_stations};

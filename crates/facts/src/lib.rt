@@ -1,4 +1,6 @@
 // What a row of the second table asks of one field.
+#![tactic(auto)]
+
 ghost use Rattle.std.specs.Prelude.{◌≡◌};
 ghost use Rattle.facts.specs.Facts.{fact_of};
 

@@ -1,6 +1,7 @@
 // Why a line of a list is refused: the marks that it has, for 10, and the first field that is too long, for 11.
+#![tactic(auto)]
 
-pub mod fields;
+pub mod long_fields;
 pub mod marking;
 
 // The marks of a line: how many semicolons and line feeds it has, and whether a line feed is its last byte.

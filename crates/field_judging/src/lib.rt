@@ -1,4 +1,6 @@
 // Rules 1 to 30 of a station's record, read in place: the first that a field breaks.
+#![tactic(auto)]
+
 ghost use Rattle.std.specs.Prelude.{◌≡◌, length};
 ghost use Rattle.basics.specs.Rules.{first_broken};
 ghost use Rattle.station.specs.Places.{fields_of};

@@ -1,4 +1,6 @@
 // The fields of a line on their way into a record.
+#![tactic(auto)]
+
 ghost use Rattle.std.specs.Prelude.{◌≡◌, true, ◌≤◌, ◌<◌, length, take};
 ghost use Rattle.station.specs.Places.{station_places};
 ghost use Rattle.semicolons.specs.Fields.{padded_field, none_longer};

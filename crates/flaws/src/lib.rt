@@ -1,4 +1,6 @@
 // What is wrong with a field: which flaw it has, and its number. The definitions and the split of each rule stand in specs/ and proofs/.
+#![tactic(auto)]
+
 ghost use Rattle.std.specs.Prelude.{◌≡◌, length};
 ghost use Rattle.columns.specs.Sets.{set_of};
 ghost use Rattle.columns.specs.Texts.{every};

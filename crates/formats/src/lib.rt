@@ -1,4 +1,6 @@
 // Decimals in the five formats of the paper, read and written.
+#![tactic(auto)]
+
 ghost use Rattle.std.specs.Prelude.{◌≡◌, ◌+◌, length};
 ghost use Rattle.formats.specs.Formats.{digits_before, digits_after, may_sign, format_of, format_width, format_fits, spell_format};
 

@@ -1,4 +1,6 @@
 // Frequencies: 1A and 1Y with their units.
+#![tactic(auto)]
+
 ghost use Rattle.std.specs.Prelude.{◌≡◌, true, length};
 ghost use Rattle.columns.specs.Sets.{among};
 ghost use Rattle.frequencies.specs.Frequencies.{amount_good, unit_good, unit_of, unit_letter, frequency_of, frequency_fits, spell_amount, spell_unit};

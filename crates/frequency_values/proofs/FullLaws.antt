@@ -15,7 +15,7 @@ use Rattle.columns.specs.Sets.{is, is_digit}
 use Rattle.columns.specs.Texts.{head, tail, ended, skip, blank, every}
 use Rattle.columns.proofs.TextLaws.{and_split, tail_at, skip_other, blank-spaces, ended-length, every_take}
 use Rattle.flaws.specs.declared.Flaw.{Flaw}
-use Rattle.numerals.specs.Numbers.{leading, number, number_from, whole_filled, amount, passes, in_sign, unsigned}
+use Rattle.numerals.specs.Numbers.{leading, number, number_from, whole_filled, amount, passes, in_sign, has_minus, unsigned}
 use Rattle.numerals.specs.declared.Whole.{Whole}
 use Rattle.numerals.specs.declared.Whole.TheVariants as whole
 use Rattle.numerals.proofs.NumberLaws.{leading_few, digits_below}
@@ -146,7 +146,7 @@ module _ (p : List ℕ) (n : length p ≡ 11) (good : amount_good p ≡ true) (t
   unfolding amount_good decimal_of unsigned
   said =
       let same : skip p ≡ p = skip_other p 0 (omega arith) through.1 in
-      read_filled _ _ (magnitude_of 5 5 p) (rw (same, there) at good)
+      read_filled _ (has_minus false (skip p)) (magnitude_of 5 5 p) (rw (same, there) at good)
 
   -- has digits before the point
   pub before_point : every is_digit (take 5 p) ≡ true

@@ -1,4 +1,6 @@
 // What an amount that keeps its rule says with its unit: the rule is not asked again.
+#![tactic(auto)]
+
 ghost use Rattle.std.specs.Prelude.{◌≡◌, true, length};
 ghost use Rattle.frequencies.specs.Frequencies.{amount_good, frequency_of};
 ghost use Rattle.frequency_values.specs.Full.{ReachesThrough};

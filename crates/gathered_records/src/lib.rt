@@ -1,4 +1,6 @@
 // Filing a line that was gathered.
+#![tactic(auto)]
+
 ghost use Rattle.std.specs.Prelude.{◌≡◌, take};
 ghost use Rattle.lists.specs.Promises.{LineFiled};
 ghost use Rattle.gathered_records.specs.Calls.{long_outcome};

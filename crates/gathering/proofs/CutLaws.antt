@@ -6,9 +6,10 @@ use Prim.Native.Nat.{ℕ, ◌+◌, ◌-◌, ◌≤◌, ◌<◌}
 use native.Mathlib.Omega.{arith}
 use lib.ListN.{length, take, drop, length-take, length-drop}
 use lib.Seq.{length-take-le, take-length, take_all, take-add, take_at, drop_at}
-use lib.Dec.{eqb}
-use borrow.Author.Tests.{eq-eqb, ne_eqb}
-use Rattle.bytes.specs.Bytes.{slice, index_of, index_after}
+use lib.Dec.{eqb, ltb}
+use borrow.Author.Tests.{eq-eqb, ne_eqb, ltb-false}
+use Rattle.std.specs.List.{position, position_or_len}
+use Rattle.std.specs.Option.{unwrap_or}
 use Rattle.semicolons.specs.Lines.{is_feed, last_byte, lines_from}
 use Rattle.semicolons.proofs.LineLaws.{last_cons, last_append}
 use Rattle.gathering.specs.Cutting.{first_line, later_lines, open_line, after_part}
@@ -54,22 +55,39 @@ end_further (c ∷ t) h = by (is_feed c) refl where
   by false e = rw e (omega arith)
 
 -- The first line feed, where there is one, is its last byte.
+abbrev feed_place : List ℕ → ℕ
+feed_place t = position_or_len (λ b. eqb b 10) t
+
 abbrev Found : List ℕ → Type 0
-Found t = (index_of 10 t < length t → index_of 10 t + 1 ≡ length (first_line t)) × (length t ≤ index_of 10 t → index_of 10 t ≡ length (first_line t))
+Found t = (feed_place t < length t → feed_place t + 1 ≡ length (first_line t)) × (length t ≤ feed_place t → feed_place t ≡ length (first_line t))
 
 feed_found : (t : List ℕ) → Found t
-unfolding first_line index_of index_after
+unfolding first_line
 feed_found [] = (λ h. absurd (omega (arith, h)), λ h. refl)
 feed_found (c ∷ t) = by (is_feed c) refl (feed_found t) where
   by : (b : Bool) → is_feed c ≡ b → Found t → Found (c ∷ t)
   by true e f = rw e (λ h. refl, λ h. absurd (omega (arith, h)))
   by false e f = rw e (λ h. omega (arith, f.0 (omega (arith, h))), λ h. omega (arith, f.1 (omega (arith, h))))
 
-module _ (t : List ℕ) (at : ℕ) (e : at ≡ 0 + index_of 10 (slice 0 (length t) t)) where
+-- It stands within the text or where that ends,
+feed_within : (t : List ℕ) → feed_place t ≤ length t
+feed_within [] = omega arith
+feed_within (c ∷ t) = by (is_feed c) refl (feed_within t) where
+  by : (b : Bool) → is_feed c ≡ b → feed_place t ≤ length t → feed_place (c ∷ t) ≤ length (c ∷ t)
+  by true e h = rw e (omega arith)
+  by false e h = rw e (omega (arith, h))
+
+-- and so does what is found of it.
+feed_or_end : (t : List ℕ) → unwrap_or (position (λ b. eqb b 10) t) (length t) ≡ feed_place t
+feed_or_end t = by (ltb (feed_place t) (length t)) refl where
+  by : (b : Bool) → ltb (feed_place t) (length t) ≡ b → unwrap_or (position (λ b. eqb b 10) t) (length t) ≡ feed_place t
+  by true e = rw e
+  by false e = rw e (let past : length t ≤ feed_place t = ltb-false (feed_place t) (length t) e in omega (arith, feed_within t))
+
+module _ (t : List ℕ) (at : ℕ) (e : at ≡ unwrap_or (position (λ b. eqb b 10) t) (length t)) where
   -- the place that is looked up
-  place : at ≡ index_of 10 t
-  unfolding slice
-  place = e ∙ rw (take-length t) (omega arith)
+  place : at ≡ feed_place t
+  place = e ∙ feed_or_end t
 
   pub ends_behind : at < length t → at + 1 ≡ length (first_line t)
   ends_behind h = rw place ((feed_found t).0 (rw (← place) h))

@@ -42,20 +42,18 @@ module _ (b p : List ℕ) (held : ℕ) where
     part_size = length-take (end - held) p ∙ omega (arith, e)
 
     -- as the bytes up to its end take,
-    pub copy_room : length (take (end - held) p) ≤ length (take (end - held) (drop held b))
+    pub copy_room : length (take (end - held) (drop held b)) ≡ length (take (end - held) p)
     copy_room = omega (arith, e, part_size, length-take (end - held) (drop held b), length-drop held b)
 
     -- and the others stay.
     pub part_fits : (copied : List ℕ)
-        → copied ≡ take (length (take (end - held) p)) (take (end - held) p) ++ drop (length (take (end - held) p)) (take (end - held) (drop held b))
+        → copied ≡ take (end - held) p
         → held < length b → take held b ++ (copied ++ drop (end - held) (drop held b)) ≡ holding b held p
     unfolding holding
     part_fits copied c h =
         let m = end - held in
-        let none : drop (length (take m p)) (take m (drop held b)) ≡ [] = drop_of_length-le (take m (drop held b)) {i = length (take m p)} (omega (arith, part_size, length-take m (drop held b))) in
-        let all : copied ≡ take m p = c ∙ rw (take-length (take m p), none) (append-nil (take m p)) in
         let rest : drop m (drop held b) ≡ drop (held + length p) b = drop-drop m held b ∙ drop_to (held + m) (held + length p) b (omega (arith, e)) in
-        rw (all, take_to m (length b - held) p (omega (arith, e)), rest)
+        rw (c, take_to m (length b - held) p (omega (arith, e)), rest)
 
 -- The first bytes of a part that is cut off at w, and of what stands behind it.
 first-bytes : (w : ℕ) (p d : List ℕ) → (w < length p → d ≡ []) → take (length p) (take w p ++ d) ≡ take w p

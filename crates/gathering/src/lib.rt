@@ -1,5 +1,6 @@
 // A line of any length, gathered part by part: its first bytes are held in a lent buffer, and beside them is kept what tells
 // how a line that is longer than the buffer must be refused.
+#![tactic(auto)]
 
 pub mod lines;
 

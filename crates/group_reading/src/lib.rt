@@ -1,4 +1,6 @@
 // Each group of a station, read from its columns of the record.
+#![tactic(auto)]
+
 ghost use Rattle.std.specs.Prelude.{◌≡◌, length};
 ghost use Rattle.basics.specs.Rules.{All};
 ghost use Rattle.station.specs.Places.{fields_of};

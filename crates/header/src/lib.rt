@@ -1,4 +1,6 @@
 // A header as typed values.
+#![tactic(auto)]
+
 use days::dates::Day;
 use serials::Serial;
 

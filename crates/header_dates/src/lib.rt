@@ -1,4 +1,6 @@
 // A date that may not be left out, as the header asks: in its columns, and typed.
+#![tactic(auto)]
+
 ghost use Rattle.std.specs.Prelude.{◌≡◌};
 ghost use Rattle.days.specs.Dates.{date_good, date_fits};
 

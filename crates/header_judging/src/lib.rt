@@ -1,4 +1,6 @@
 // The code of a header's record: its fields are judged in place, in the order of their codes.
+#![tactic(auto)]
+
 ghost use Rattle.std.specs.Prelude.{◌≡◌, length};
 ghost use Rattle.header.specs.Codes.{header_code, filed_header_code};
 ghost use Rattle.header_judging.specs.Promises.{HeaderChecked, HeaderFiled};

@@ -1,4 +1,6 @@
 // A header read from its record.
+#![tactic(auto)]
+
 ghost use Rattle.std.specs.Prelude.{◌≡◌, length};
 ghost use Rattle.header.specs.Codes.{header_value};
 ghost use Rattle.header_reading.specs.Promises.{HeaderRead};

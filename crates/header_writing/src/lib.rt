@@ -1,4 +1,6 @@
 // A typed header written into a lent record, each field straight into its own columns.
+#![tactic(auto)]
+
 ghost use Rattle.std.specs.Prelude.{◌≡◌, length};
 ghost use Rattle.header.specs.Spelling.{spell_header};
 ghost use Rattle.header.specs.Codes.{typed_header_code};

@@ -1,4 +1,6 @@
 // Frequencies in hundredths of a hertz, so that any two compare, and the lower and the higher of two.
+#![tactic(auto)]
+
 ghost use Rattle.std.specs.Prelude.{◌≡◌, true};
 ghost use Rattle.frequencies.specs.Frequencies.{frequency_fits};
 ghost use Rattle.hundredths.specs.Hundredths.{step_of, hundredths_of, lower_of, higher_of};

@@ -1,4 +1,6 @@
 // Standard input read whole, so that a read that fails is told from the end of the input.
+#![tactic(auto)]
+
 ghost use Rattle.std.specs.Prelude.{◌≤◌, length};
 
 use std::io::Read;

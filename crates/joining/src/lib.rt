@@ -1,4 +1,6 @@
 // A record's fields on their way out, joined to a line.
+#![tactic(auto)]
+
 ghost use Rattle.std.specs.Prelude.{◌≡◌, cond, [], ◌∷◌, ◌++◌, ◌+◌, ◌≤◌, ◌<◌, eqb, length, take, drop};
 ghost use Rattle.station.specs.Places.{fields_of};
 ghost use Rattle.semicolons.specs.Fields.{station_sides, trimmed_field, trimmed_fields};

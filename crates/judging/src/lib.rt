@@ -1,4 +1,6 @@
 // The code of a station's record, read in place: the first broken rule, 1 to 30 and then 31 to 39.
+#![tactic(auto)]
+
 ghost use Rattle.std.specs.Prelude.{◌≡◌, length};
 ghost use Rattle.basics.specs.Rules.{All, first_broken};
 ghost use Rattle.station.specs.Places.{fields_of};

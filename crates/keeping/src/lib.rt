@@ -1,4 +1,6 @@
 // Text kept as its bytes: an array of the width of its columns, and spaces where there are more or fewer.
+#![tactic(auto)]
+
 ghost use Rattle.std.specs.Prelude.{◌≡◌, length};
 ghost use Rattle.columns.specs.Texts.{text_in};
 

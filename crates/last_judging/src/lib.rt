@@ -1,4 +1,6 @@
 // Rules 35 to 39 of a station's record, read in place where 1 to 30 hold: those of antennas, height, gain and name.
+#![tactic(auto)]
+
 ghost use Rattle.std.specs.Prelude.{◌≡◌, length};
 ghost use Rattle.basics.specs.Rules.{All, first_broken};
 ghost use Rattle.station.specs.Places.{fields_of};

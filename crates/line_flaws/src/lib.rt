@@ -1,4 +1,6 @@
 // What is wrong with a line that is refused with 9: the flaw of the field that the code of its record names.
+#![tactic(auto)]
+
 ghost use Rattle.line_flaws.specs.Promises.{LineExplained};
 
 use basics::Outcome;

@@ -1,4 +1,6 @@
 // A line gathered part by part.
+#![tactic(auto)]
+
 ghost use Rattle.gathering.specs.Promises.{GoneOn};
 
 use gathering::Gathered;

@@ -1,4 +1,6 @@
 // What a part adds to what is kept of a line: to counts that stop at a limit, to its last byte, and to the bytes that are held.
+#![tactic(auto)]
+
 ghost use Rattle.std.specs.Prelude.{◌≡◌, ◌+◌, min, length};
 ghost use Rattle.gathering.specs.Gathering.{last_after, holding};
 

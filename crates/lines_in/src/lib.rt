@@ -1,4 +1,6 @@
 // A line on its way in, as a station's record. No typed station is made: a record that breaks no rule is respelled where it stands.
+#![tactic(auto)]
+
 ghost use Rattle.std.specs.Prelude.{◌≡◌, true, eqb, length};
 ghost use Rattle.basics.specs.Outcomes.{refusal};
 ghost use Rattle.semicolons.specs.Lines.{record_of};

@@ -1,4 +1,6 @@
 // A station's record on its way out, as a line. No typed station is made: a record that breaks no rule is respelled first.
+#![tactic(auto)]
+
 ghost use Rattle.lists.specs.Promises.{RecordListed};
 
 use basics::outcomes::is_done;

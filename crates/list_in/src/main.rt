@@ -1,5 +1,7 @@
 // A semicolon list comes in on standard input; the record of each line that is accepted goes to standard output, and a line
 // that is refused is named on standard error, with what the library tells of it.
+#![tactic(auto)]
+
 mod telling;
 
 ghost use Rattle.std.specs.Prelude.{◌≤◌, length};

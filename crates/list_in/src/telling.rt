@@ -1,6 +1,6 @@
 // What the library tells of a line that is refused: with 9 the kind of what is wrong, with 10 its marks, with 11 its first field that is too long.
 use columns::texts::trimmed_length;
-use faults::fields::long_field;
+use faults::long_fields::long_field;
 use faults::marking::line_marks;
 use gathering::Gathered;
 use line_flaws::explain_line;

@@ -1,4 +1,6 @@
 // Lists out: reads a filing file from standard input and prints its stations as lines of a semicolon list.
+#![tactic(auto)]
+
 ghost use Rattle.std.specs.Prelude.{◌≡◌, ◌+◌, ◌*◌, length};
 ghost use Rattle.basics.specs.Fields.{record_length};
 ghost use Rattle.files.specs.Files.{most_stations};

@@ -1,4 +1,6 @@
 // Lists: the stations of a file, each as its line.
+#![tactic(auto)]
+
 ghost use Rattle.std.specs.Prelude.{◌+◌, ◌*◌, ◌≤◌, length};
 ghost use Rattle.files.specs.Files.{most_stations};
 ghost use Rattle.forms.specs.Counting.{rows};

@@ -1,4 +1,6 @@
 // Stations, and their records, as lines of a semicolon list, for owners who keep them in office software: see specs/.
+#![tactic(auto)]
+
 use basics::Outcome;
 use station::Station;
 

@@ -1,5 +1,7 @@
 // What is wrong with a field of numbers: a frequency and its unit, tenths, a whole number, a height, a date, a place. What cannot be read carries its flaw
 // in its reader's answer; what was read has that of its range.
+#![tactic(auto)]
+
 ghost use Rattle.std.specs.Prelude.{◌≡◌, []};
 ghost use Rattle.decimals.specs.Decimals.{admits_decimal};
 ghost use Rattle.formats.specs.Formats.{format_of, may_sign};

@@ -1,4 +1,6 @@
 // Whole numbers, with a sign and without, written: their digits, their signs, and whether they have their places.
+#![tactic(auto)]
+
 ghost use Rattle.std.specs.Prelude.{◌≡◌, ◌++◌, ◌+◌, ◌/◌, ◌^◌, ◌≤◌, ◌<◌, length, take, drop, nat_abs};
 ghost use Rattle.numerals.specs.Numbers.{spell_digits, spell_whole, whole_fits, spell_signed, signed_fits, is_negative};
 

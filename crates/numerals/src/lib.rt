@@ -1,4 +1,6 @@
 // Whole numbers without a sign, read; and the answers of all numbers.
+#![tactic(auto)]
+
 ghost use Rattle.std.specs.Prelude.{◌≡◌, true, ◌-◌, ◌^◌, ◌≤◌, ◌<◌, length};
 ghost use Rattle.columns.specs.Sets.{is_digit};
 ghost use Rattle.columns.specs.Texts.{every};

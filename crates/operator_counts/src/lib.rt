@@ -1,4 +1,6 @@
 // What the stations of a file say of their operators: how many there are of each, and the lowest and the highest transmit frequency, in one pass.
+#![tactic(auto)]
+
 ghost use Rattle.std.specs.Prelude.{◌≡◌, ◌+◌, ◌*◌, ◌≤◌, ◌<◌, length};
 ghost use Rattle.basics.specs.Fields.{record_length};
 ghost use Rattle.files.specs.Files.{most_stations};

@@ -1,4 +1,6 @@
 // The lines of the operators, each put into the lent bytes behind what stands there already.
+#![tactic(auto)]
+
 ghost use Rattle.std.specs.Prelude.{◌≡◌, ◌++◌, ◌+◌, ◌≤◌, length};
 ghost use Rattle.printing.specs.Promises.{Appended};
 ghost use Rattle.operator_numbers.specs.Frequencies.{in_digits};

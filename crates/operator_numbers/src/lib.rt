@@ -1,4 +1,6 @@
 // Numbers and frequencies as people read them, put into the lent bytes behind what stands there already.
+#![tactic(auto)]
+
 ghost use Rattle.std.specs.Prelude.{◌≡◌, ◌+◌, ◌≤◌, length};
 ghost use Rattle.numerals.specs.Numbers.{spell_whole};
 ghost use Rattle.printing.specs.Promises.{Appended};

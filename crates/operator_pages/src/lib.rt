@@ -1,4 +1,6 @@
 // The page of a file: a row for each operator that has a station with code 0, ascending by code.
+#![tactic(auto)]
+
 ghost use Rattle.std.specs.Prelude.{◌≡◌, [], ◌<◌, length};
 ghost use Rattle.basics.specs.declared.Outcome.TheVariants as outcome;
 ghost use Rattle.operator_counts.specs.Counts.{operators};

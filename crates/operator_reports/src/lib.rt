@@ -1,4 +1,6 @@
 // What the program prints of a file: a line for each operator, and the total.
+#![tactic(auto)]
+
 ghost use Rattle.std.specs.Prelude.{◌≡◌, ◌+◌, ◌*◌, ◌≤◌, length};
 ghost use Rattle.forms.specs.Counting.{rows};
 ghost use Rattle.printing.specs.Promises.{Appended};

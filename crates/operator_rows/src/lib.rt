@@ -1,4 +1,6 @@
 // The page of a file written into lent rows.
+#![tactic(auto)]
+
 ghost use Rattle.operator_pages.specs.Promises.{PagePut};
 
 use operator_pages::{OperatorRow, PageAnswer, page_for, row_at};

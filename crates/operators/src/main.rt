@@ -1,4 +1,6 @@
 // Operators: reads a filing file from standard input and prints a line for each operator, and the total.
+#![tactic(auto)]
+
 ghost use Rattle.std.specs.Prelude.{◌≡◌, ◌+◌, ◌*◌, length};
 ghost use Rattle.basics.specs.Fields.{record_length};
 ghost use Rattle.files.specs.Files.{most_stations};

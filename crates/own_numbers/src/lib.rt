@@ -1,4 +1,6 @@
 // Whether a number stands in its one spelling, told by its columns without reading it.
+#![tactic(auto)]
+
 ghost use Rattle.std.specs.Prelude.{◌≡◌, true, ◌+◌, ◌<◌, length};
 ghost use Rattle.formats.specs.Formats.{digits_before, digits_after, may_sign, format_width};
 ghost use Rattle.formats.specs.Tenths.{tenths_of, spell_tenths};

@@ -1,4 +1,6 @@
 // A record that breaks no rule, written in the one spelling: it is copied, and numbers are respelled where they stand, since only numbers can be spelled in more than one way.
+#![tactic(auto)]
+
 ghost use Rattle.std.specs.Prelude.{◌≡◌, true, length, take};
 ghost use Rattle.basics.specs.Fields.{joined};
 ghost use Rattle.positions.specs.Positions.{position_good};

@@ -1,4 +1,6 @@
 // A field in its columns: how many a station's fields have, and on which side each is padded.
+#![tactic(auto)]
+
 ghost use Rattle.std.specs.Prelude.{◌≡◌, ◌++◌, ◌+◌, ◌≤◌, ◌<◌, length, get_or, take, drop};
 ghost use Rattle.station.specs.Places.{station_places};
 ghost use Rattle.semicolons.specs.Fields.{station_sides, spaces_before, padded_field};

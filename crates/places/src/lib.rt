@@ -1,4 +1,6 @@
 // Where the fields of a header and of a station stand in their records.
+#![tactic(auto)]
+
 ghost use Rattle.places.specs.Promises.{HeaderPlaced, StationPlaced, FieldPlaced};
 
 use basics::Place;

@@ -1,4 +1,6 @@
 // Positions judged: whether the coordinates 4C can be read, told by all columns at once where they stand in the one spelling.
+#![tactic(auto)]
+
 ghost use Rattle.std.specs.Prelude.{◌≡◌, true};
 ghost use Rattle.positions.specs.Positions.{position_good};
 

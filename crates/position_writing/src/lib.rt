@@ -1,4 +1,6 @@
 // Positions written: whether a typed position is on the ground, and its fifteen columns.
+#![tactic(auto)]
+
 ghost use Rattle.std.specs.Prelude.{◌≡◌, cond, [], ◌∷◌, ◌+◌, ◌/◌, ◌%◌, length, nat_abs};
 ghost use Rattle.numerals.specs.Numbers.{is_negative, spell_digits};
 ghost use Rattle.positions.specs.Positions.{position_fits, spell_position};

@@ -1,4 +1,6 @@
 // Positions: the coordinates 4C, read. Each half is an arc: degrees, a letter, minutes and seconds.
+#![tactic(auto)]
+
 ghost use Rattle.std.specs.Prelude.{◌≡◌, true, false, cond, ◌&&◌, ◌||◌, eqb};
 ghost use Rattle.flaws.specs.Flaws.{unread};
 ghost use Rattle.flaws.specs.declared.Flaw.TheVariants as flaw;

@@ -1,4 +1,6 @@
 // What is wrong with a record by its code, in words: the field that the code names, its columns, its bytes, and the flaw.
+#![tactic(auto)]
+
 ghost use Rattle.std.specs.Prelude.{◌≡◌, ◌++◌, ◌+◌, ◌≤◌, length, take, drop};
 ghost use Rattle.columns.specs.Texts.{bytes, trimmed};
 ghost use Rattle.printing.specs.Promises.{Appended};

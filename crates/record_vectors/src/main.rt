@@ -1,5 +1,7 @@
 // Runs record vectors: S is a station's record, H a header's, and h a header's in a file of two stations. Prints for each
 // the refusal's number, and with 9 its code.
+#![tactic(auto)]
+
 use basics::Outcome;
 
 // Writes to standard output.

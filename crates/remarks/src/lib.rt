@@ -1,4 +1,6 @@
 // The remarks, 13Z: the technology, the cell, the installation, and a free text.
+#![tactic(auto)]
+
 ghost use Rattle.std.specs.Prelude.{◌≡◌, [], ◌∷◌, length};
 ghost use Rattle.columns.specs.Sets.{between, among};
 ghost use Rattle.columns.specs.Texts.{one_of};

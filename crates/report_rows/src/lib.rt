@@ -1,4 +1,6 @@
 // The lines of a report's bad rows.
+#![tactic(auto)]
+
 ghost use Rattle.std.specs.Prelude.{◌+◌, ◌*◌, ◌≤◌, length};
 ghost use Rattle.files.specs.Files.{most_stations};
 ghost use Rattle.forms.specs.Counting.{rows};

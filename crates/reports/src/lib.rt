@@ -1,4 +1,6 @@
 // Reports: a file judged into a sheet, and the sheet's lines.
+#![tactic(auto)]
+
 ghost use Rattle.std.specs.Prelude.{◌≡◌, true, ◌≤◌, length, eqb};
 ghost use Rattle.basics.specs.Outcomes.{refusal};
 ghost use Rattle.files.specs.Files.{stations, most_stations};

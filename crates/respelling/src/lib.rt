@@ -1,4 +1,6 @@
 // A record in its one spelling.
+#![tactic(auto)]
+
 ghost use Rattle.std.specs.Prelude.{◌≡◌, [], ◌∷◌};
 ghost use Rattle.basics.specs.Outcomes.{first_refusal, record_test, buffer_test};
 ghost use Rattle.respelling.specs.Promises.{StationRespelled, HeaderRespelled};

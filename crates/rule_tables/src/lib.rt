@@ -1,4 +1,6 @@
 // The two tables of a station's rules, in numbers.
+#![tactic(auto)]
+
 ghost use Rattle.rule_tables.specs.Told.{EntriesTell, RowsTell};
 
 // The highest of an entry that has none.

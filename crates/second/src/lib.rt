@@ -1,4 +1,6 @@
 // The second judge: the paper's two tables as numbers, walked entry by entry and row by row.
+#![tactic(auto)]
+
 ghost use Rattle.std.specs.Prelude.{◌≡◌};
 ghost use Rattle.station.specs.Codes.{station_code};
 ghost use Rattle.station_flaws.specs.Calls.{station_flaw};

@@ -1,4 +1,6 @@
 // Codes 1 to 7 of a header's record, read in place: what the file is, and who sent it.
+#![tactic(auto)]
+
 ghost use Rattle.std.specs.Prelude.{◌≡◌, length, take};
 ghost use Rattle.basics.specs.Rules.{first_broken};
 ghost use Rattle.header.specs.Places.{header_fields};

@@ -1,4 +1,6 @@
 // A header's sender and sending, columns 87 to 203, each field written straight into its own columns.
+#![tactic(auto)]
+
 ghost use Rattle.std.specs.Prelude.{◌≡◌, true, length, take, drop};
 ghost use Rattle.days.specs.Dates.{date_fits};
 ghost use Rattle.basics.specs.Fields.{joined};

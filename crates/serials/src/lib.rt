@@ -1,4 +1,6 @@
 // The header's own file number, field 12, which may be left out.
+#![tactic(auto)]
+
 ghost use Rattle.std.specs.Prelude.{◌≡◌, length};
 ghost use Rattle.serials.specs.Serials.{serial_good, serial_of, serial_fits, spell_serial};
 

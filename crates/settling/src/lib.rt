@@ -1,4 +1,6 @@
 // A station that was read and set, written back into its record.
+#![tactic(auto)]
+
 ghost use Rattle.std.specs.Prelude.{◌≡◌, true, eqb};
 ghost use Rattle.basics.specs.Outcomes.{refusal};
 ghost use Rattle.basics.specs.declared.Outcome.TheVariants as outcome;

@@ -1,1 +1,2 @@
 // Verdict sheets: what a row holds, the sheet judged from a file, and how judging ends: see specs/.
+#![tactic(auto)]

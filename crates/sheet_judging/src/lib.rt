@@ -1,4 +1,6 @@
 // Judging: the whole sheet of a file.
+#![tactic(auto)]
+
 ghost use Rattle.std.specs.Prelude.{◌≡◌};
 ghost use Rattle.sheet.specs.Sheets.{judged_sheet};
 ghost use Rattle.sheet.specs.Calls.{judge_outcome};

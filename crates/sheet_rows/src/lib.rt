@@ -1,4 +1,6 @@
 // The rows of a sheet, written in one loop over the stations of a file.
+#![tactic(auto)]
+
 ghost use Rattle.std.specs.Prelude.{◌≡◌, ◌++◌, ◌+◌, ◌*◌, ◌≤◌, length, take, drop};
 ghost use Rattle.files.specs.Files.{most_stations};
 ghost use Rattle.forms.specs.Counting.{count, rows};

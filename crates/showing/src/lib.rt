@@ -1,4 +1,6 @@
 // Showing: the piece of the file itself that holds a field.
+#![tactic(auto)]
+
 ghost use Rattle.std.specs.Prelude.{◌≡◌, not, ◌||◌, ltb, eqb, ◌+◌, ◌-◌, ◌≤◌, length, take, drop};
 ghost use Rattle.places.specs.Places.{field_count};
 ghost use Rattle.basics.specs.Pieces.{StandsAt};

@@ -1,4 +1,6 @@
 // Whole numbers with a sign, read.
+#![tactic(auto)]
+
 ghost use Rattle.std.specs.Prelude.{◌≡◌, ◌^◌, ◌<◌};
 ghost use Rattle.flaws.specs.Flaws.{letter_of, unread};
 ghost use Rattle.numerals.specs.Numbers.{amount, with_sign, in_sign, has_minus, unsigned, signed_of};

@@ -1,4 +1,6 @@
 // The flaw of a field of numbers by its entry in a table: one function for each kind, over any lowest and highest.
+#![tactic(auto)]
+
 ghost use Rattle.std.specs.Prelude.{◌≡◌, true};
 ghost use Rattle.formats.specs.Formats.{may_sign};
 ghost use Rattle.spans.specs.Spans.{from_to, span};

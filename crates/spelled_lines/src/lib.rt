@@ -1,4 +1,6 @@
 // A record in its one spelling as a line.
+#![tactic(auto)]
+
 ghost use Rattle.std.specs.Prelude.{◌≡◌, length};
 ghost use Rattle.station.specs.Spelling.{spell_station};
 ghost use Rattle.station.specs.Codes.{value_of, typed_code};

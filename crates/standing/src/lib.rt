@@ -1,4 +1,6 @@
 // Standing: whether two stations of a file stand at one place and one height.
+#![tactic(auto)]
+
 ghost use Rattle.std.specs.Prelude.{◌≡◌, true, ◌+◌, ◌*◌, ◌≤◌, length};
 ghost use Rattle.basics.specs.Fields.{record_length};
 ghost use Rattle.standing.specs.Standing.{same_count, same_position, same_place, stand_alike};

@@ -1,4 +1,6 @@
 // A value as a caller states it: a byte that says whether it is filled, and a number.
+#![tactic(auto)]
+
 ghost use Rattle.std.specs.Prelude.{◌≡◌};
 ghost use Rattle.stating.specs.Stating.{tenths_stated, height_stated};
 

@@ -17,10 +17,11 @@ value_at v k = value_behind station_table v (k - 1)
 abbrev pub station_from : Values station_table → Station
 station_from v =
     let field : (k : ℕ) → (meant_at k).Value = value_at v in
+    let ground : (meant_at 21).Value = field 21 in
     record {
       channel = record { transmit = field 1; category = field 3; class = field 4; service = field 5; users = field 6; carrier = field 7 };
       site = record { started = field 8; name = field 9; country = field 10; position = field 11; radius = field 12; height = field 13 };
       emission = record { designation = field 14; power = field 15; basis = field 16; azimuth = field 17; elevation = field 18 };
-      antenna = record { polarisation = field 19; gain = field 20; ground = field 21; horizontal = field 22; vertical = field 23 };
+      antenna = record { polarisation = field 19; gain = field 20; ground = ground; horizontal = field 22; vertical = field 23 };
       coordination = record { receive = field 24; remarks = field 26; status = field 27; requested = field 28; coordinated = field 29; reference = field 30 };
     }

@@ -1,4 +1,6 @@
 // A station as typed values, in five groups of fields that follow one another in the record.
+#![tactic(auto)]
+
 use station_groups::{Antenna, Channel, Coordination, Emission, Site};
 
 pub mod setting;

@@ -1,4 +1,6 @@
 // What is wrong with a station's record: its first broken code, and the flaw of the one field that the code names.
+#![tactic(auto)]
+
 ghost use Rattle.std.specs.Prelude.{◌≡◌, ◌≤◌, length};
 ghost use Rattle.coordination_flaws.specs.Flaws.{record_flaw};
 ghost use Rattle.station_flaws.specs.Promises.{StationExplained};

@@ -1,4 +1,6 @@
 // The five groups of a typed station, in which it is judged, read and written.
+#![tactic(auto)]
+
 use days::dates::Day;
 use distances::{Height, Kilometres, Metres};
 use formats::Tenths;

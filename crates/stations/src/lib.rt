@@ -1,4 +1,6 @@
 // What the calls on whole files read of a station, where its record is wholly there.
+#![tactic(auto)]
+
 ghost use Rattle.std.specs.Prelude.{◌≡◌, ◌+◌, ◌*◌, ◌≤◌, length};
 ghost use Rattle.basics.specs.Fields.{record_length};
 ghost use Rattle.stations.specs.Stations.{code_at, reference_at, operator_at, site_at, position_at, ground_at, transmit_at};

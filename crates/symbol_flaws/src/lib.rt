@@ -1,4 +1,6 @@
 // What is wrong with a field that is kept as its bytes: none of these has a range.
+#![tactic(auto)]
+
 ghost use Rattle.std.specs.Prelude.{◌≡◌, cond, []};
 ghost use Rattle.flaw_parts.specs.Parts.{flaw_at};
 ghost use Rattle.flaws.specs.declared.Flaw.TheVariants as flaw;

@@ -1,4 +1,6 @@
 // The fields that are kept as their bytes: codes, choices, names and references.
+#![tactic(auto)]
+
 ghost use Rattle.std.specs.Prelude.{◌≡◌, ◌||◌};
 ghost use Rattle.columns.specs.Texts.{same};
 ghost use Rattle.fields.specs.Table.{fits_at, is_user};

@@ -1,4 +1,6 @@
 // Prints the two tables that the second judge walks, from the very numbers that run, as a page for training staff.
+#![tactic(auto)]
+
 mod bounds;
 mod rules;
 mod words;

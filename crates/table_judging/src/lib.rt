@@ -1,4 +1,6 @@
 // Judging a record by any two tables: one loop over the entries of its fields, and then the rows of higher codes.
+#![tactic(auto)]
+
 ghost use Rattle.std.specs.Prelude.{◌≡◌};
 ghost use Rattle.basics.specs.Rules.{first_broken};
 ghost use Rattle.flaw_parts.specs.Parts.{flaw_with, flawless_all};

@@ -1,4 +1,6 @@
 // Powers, angles and gains: 8B1, 9A, 9B and 9G.
+#![tactic(auto)]
+
 ghost use Rattle.std.specs.Prelude.{◌≡◌, length};
 ghost use Rattle.formats.specs.Formats.{digits_before, digits_after, may_sign, format_width};
 ghost use Rattle.formats.specs.Tenths.{tenths_good, tenths_of, tenths_fit, spell_tenths};

@@ -32,7 +32,7 @@ use Rattle.traces.proofs.TraceLaws.{call, asked_one, save-whole}
 pub after_both : (s : List ℕ × List ℕ) (xs ys : List Call) → after_all s (xs ++ ys) ≡ after_all (after_all s xs) ys
 unfolding after_all
 after_both s [] ys = refl
-after_both s (x ∷ xs) ys = after_both _ xs ys
+after_both s (x ∷ xs) ys = after_both (replaced_file s.0 s.1 x.0 x.1, replaced_sheet s.0 s.1 x.0 x.1) xs ys
 
 -- How many pass and how many do not are all.
 pub count_both : (p : ℕ → Bool) (n : ℕ) → count (λ i. not (p i)) n + count p n ≡ n

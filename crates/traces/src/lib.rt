@@ -1,4 +1,6 @@
 // A trace of saves, 222 bytes each: three digits for the record number, then the record.
+#![tactic(auto)]
+
 ghost use Rattle.std.specs.Prelude.{◌≡◌, ◌≤◌, length, take, drop};
 ghost use Rattle.traces.specs.Traces.{save_length, can_run};
 

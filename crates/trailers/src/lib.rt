@@ -1,4 +1,6 @@
 // The trailer: what a sheet says of itself, its header, and the rows that stand.
+#![tactic(auto)]
+
 ghost use Rattle.std.specs.Prelude.{◌≡◌, ◌&&◌, ◌+◌, ◌*◌, ◌≤◌, length, take, drop};
 ghost use Rattle.columns.specs.Texts.{same};
 ghost use Rattle.forms.specs.Counting.{first, count};

@@ -1,4 +1,6 @@
 // What is wrong with a typed station's antenna: the flaw of the one value that a code names.
+#![tactic(auto)]
+
 ghost use Rattle.std.specs.Prelude.{◌≡◌, ◌-◌, ◌≤◌, get_or};
 ghost use Rattle.flaws.specs.declared.Flaw.TheVariants as flaw;
 ghost use Rattle.typed_antenna_flaws.specs.Groups.{antenna_flaws};

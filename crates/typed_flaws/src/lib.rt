@@ -1,4 +1,6 @@
 // What is wrong with a typed station: its first broken code, and the flaw of the one value that the code names.
+#![tactic(auto)]
+
 ghost use Rattle.std.specs.Prelude.{◌≡◌, ◌-◌, ◌≤◌, get_or};
 ghost use Rattle.flaws.specs.declared.Flaw.TheVariants as flaw;
 ghost use Rattle.typed_flaws.specs.Groups.{site_flaws, emission_flaws, coordination_flaws};

@@ -1,4 +1,6 @@
 // The code of each group of a typed station: rules 1 to 30, the first that a value breaks.
+#![tactic(auto)]
+
 ghost use Rattle.std.specs.Prelude.{◌≡◌};
 ghost use Rattle.basics.specs.Rules.{first_broken};
 ghost use Rattle.station_groups.specs.Groups.{channel_rules, site_rules, emission_rules, antenna_rules, coordination_rules};

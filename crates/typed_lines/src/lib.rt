@@ -1,4 +1,6 @@
 // A line read as a typed station, and a typed station written as a line.
+#![tactic(auto)]
+
 ghost use Rattle.lists.specs.Promises.{LineRead, LineWritten};
 
 use basics::Outcome;

@@ -1,4 +1,6 @@
 // Vectors one after the other: a letter for the kind, three digits for the width, a colon, the bytes and a line feed.
+#![tactic(auto)]
+
 ghost use Rattle.std.specs.Prelude.{◌<◌};
 
 use numerals::{Whole, read_whole};

@@ -1,4 +1,6 @@
 // The name of a station on a carriage, and the vehicle number in it.
+#![tactic(auto)]
+
 ghost use Rattle.std.specs.Prelude.{◌≡◌, length};
 ghost use Rattle.vehicles.specs.Digits.{number_digits};
 ghost use Rattle.vehicles.specs.Names.{name_of, holds_number};

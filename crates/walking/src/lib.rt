@@ -1,4 +1,6 @@
 // What any two tables say of a record: an entry of one field, by itself and with the rows of its code; a loop over the rows that bind fields together.
+#![tactic(auto)]
+
 pub mod parts;
 
 ghost use Rattle.std.specs.Prelude.{◌≡◌, [], ◌<◌, length, get_or};

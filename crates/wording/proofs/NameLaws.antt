@@ -41,9 +41,8 @@ unfolding name_at
 no_name zero h = absurd (omega arith)
 no_name (suc i) h = ap (λ (r : Row). bytes r.name) (get_or-eq_default station_table (field "" 0 0 remarks) {n = i} (omega arith))
 
--- Ten bytes that are copied over ten are those bytes.
-pub ten_copied : (names old : List ℕ) (i : ℕ) → 10 * i + 10 ≤ length names → length old ≡ 10
-    → let t = take (10 * i + 10 - 10 * i) (drop (10 * i) names) in (take (length t) t ++ drop (length t) old ≡ take 10 (drop (10 * i) names)) × (length (take 10 (drop (10 * i) names)) ≡ 10)
-ten_copied names old i h n =
-    let ten : length (take 10 (drop (10 * i) names)) ≡ 10 = length-take-le 10 (drop (10 * i) names) (omega (arith, length-drop (10 * i) names)) in
-    (rw (add-sub_cancel_left (10 * i) 10, take-length (take 10 (drop (10 * i) names)), drop_of_length-le old {i = length (take 10 (drop (10 * i) names))} (omega (arith, ten, n))) (append-nil (take 10 (drop (10 * i) names))), ten)
+-- Ten bytes that are copied are those bytes.
+pub ten_copied : (names : List ℕ) (i : ℕ) → 10 * i + 10 ≤ length names
+    → (take (10 * i + 10 - 10 * i) (drop (10 * i) names) ≡ take 10 (drop (10 * i) names)) × (length (take 10 (drop (10 * i) names)) ≡ 10)
+ten_copied names i h =
+    (rw (add-sub_cancel_left (10 * i) 10), length-take-le 10 (drop (10 * i) names) (omega (arith, length-drop (10 * i) names)))

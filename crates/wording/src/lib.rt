@@ -1,4 +1,6 @@
 // What people read of fields and flaws: the names of the station's fields, and flaws in words.
+#![tactic(auto)]
+
 ghost use Rattle.std.specs.Prelude.{◌≡◌, ◌+◌, ◌*◌, ◌≤◌, length, take, drop};
 ghost use Rattle.columns.specs.Texts.{trimmed};
 ghost use Rattle.wording.specs.Words.{flaw_words, name_at};

@@ -1,4 +1,6 @@
 // Words: eight bytes as one number, and texts compared by them.
+#![tactic(auto)]
+
 ghost use Rattle.std.specs.Prelude.{◌≡◌, ◌+◌, ◌≤◌, ◌<◌, length, get_or};
 ghost use Rattle.columns.specs.Texts.{same};
 ghost use Rattle.words.specs.Words.{word_of, word_at};

@@ -1,4 +1,6 @@
 // A typed station written into a lent record, each field straight into its own columns.
+#![tactic(auto)]
+
 ghost use Rattle.std.specs.Prelude.{◌≡◌, length};
 ghost use Rattle.station.specs.Spelling.{spell_station};
 ghost use Rattle.writing.specs.Promises.{StationWritten};

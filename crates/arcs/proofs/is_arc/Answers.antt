@@ -43,13 +43,13 @@ returns-then-not-is_up_to-2 c =
 
 pub returns-then-not-is_up_to-3 : goal.returns-then-not-is_up_to-3
 returns-then-not-is_up_to-3 c =
-    rw (degrees_pass c, letter_passes c, (minutes_pass (goal.at.returns-then-not-is_up_to-3 c).Else-not-is_up_to-2), ← c.is_up_to-3.ensures, not-true c.is_up_to-3.result c.if-not-is_up_to-3.true-raw)
+    rw ((degrees_pass (goal.at.returns-then-not-is_up_to-3 c).Else-not-is_up_to), (letter_passes (goal.at.returns-then-not-is_up_to-3 c).Else-not-is_hemisphere), (minutes_pass (goal.at.returns-then-not-is_up_to-3 c).Else-not-is_up_to-2), ← c.is_up_to-3.ensures, not-true c.is_up_to-3.result c.if-not-is_up_to-3.true-raw)
 
 pub seconds_in-requires : goal.seconds_in-requires
 seconds_in-requires c =
     let a = c.args.a in
-    omega (arith, up_to a.degrees _ (degrees_pass c), up_to a.minutes 59 (minutes_pass (goal.at.seconds_in-requires c).Else-not-is_up_to-2), up_to a.seconds 59 (seconds_pass c))
+    omega (arith, up_to a.degrees _ (degrees_pass (goal.at.seconds_in-requires c).Else-not-is_up_to), up_to a.minutes 59 (minutes_pass (goal.at.seconds_in-requires c).Else-not-is_up_to-2), up_to a.seconds 59 (seconds_pass c))
 
 pub returns : goal.returns
 returns c =
-    rw (degrees_pass c, letter_passes c, minutes_pass c, (seconds_pass (goal.at.returns c).Else-not-is_up_to-3), c.seconds_in.ensures)
+    rw ((degrees_pass (goal.at.returns c).Else-not-is_up_to), (letter_passes (goal.at.returns c).Else-not-is_hemisphere), (minutes_pass (goal.at.returns c).Else-not-is_up_to-2), (seconds_pass (goal.at.returns c).Else-not-is_up_to-3), c.seconds_in.ensures)

@@ -29,4 +29,4 @@ pub returns-then-not-says_number-2 : goal.returns-then-not-says_number-2
 returns-then-not-says_number-2 c = rw ((degrees_pass (goal.at.returns-then-not-says_number-2 c).Else-not-says_number), (letter_passes (goal.at.returns-then-not-says_number-2 c).Else-not-is_hemisphere), ← c.says_number-2.ensures, not-true c.says_number-2.result c.if-not-says_number-2.true-raw)
 
 pub returns : goal.returns
-returns c = rw (degrees_pass c, letter_passes c, (minutes_pass (goal.at.returns c).Else-not-says_number-2)) c.says_number-3.ensures
+returns c = rw ((degrees_pass (goal.at.returns c).Else-not-says_number), (letter_passes (goal.at.returns c).Else-not-is_hemisphere), (minutes_pass (goal.at.returns c).Else-not-says_number-2)) c.says_number-3.ensures

@@ -15,11 +15,11 @@ first_bearer-found-requires c =
 
 pub returns-then-found-eq0 : goal.returns-then-found-eq0
 returns-then-found-eq0 c = record {
-      kept_2 = c.lead_site.ensures.kept_2;
-      by_index = λ who part so_far.
-          let none = sym (c.first_bearer-found.ensures who so_far.chains) ∙ c.if-found-eq0.true in
-          (none_elsewhere c.args.file.now who c.args.k c.requires.le_k.0 part none, c.lead_site.ensures.by_index who part none so_far);
-    }
+  kept_2 = c.lead_site.ensures.kept_2;
+  by_index = λ who part so_far.
+      let none = sym (c.first_bearer-found.ensures who so_far.chains) ∙ c.if-found-eq0.true in
+      (none_elsewhere c.args.file.now who c.args.k c.requires.le_k.0 part none, c.lead_site.ensures.by_index who part none so_far);
+}
 
 pub alike-requires : goal.alike-requires
 alike-requires c =
@@ -37,11 +37,11 @@ bounds-seconds-leader c =
 
 pub returns-then-alike : goal.returns-then-alike
 returns-then-alike c = record {
-      kept_2 = c.requires.kept;
-      by_index = λ who part so_far.
-          site-alike c.args.file.now who c.args.k c.requires.le_k.0 part c.first_bearer-found.result (omega arith) (sym (c.first_bearer-found.ensures who so_far.chains)) c.args.heads.now c.args.nexts.now c.args.seconds.now
-          (sym c.alike.ensures ∙ c.if-alike.true) so_far;
-    }
+  kept_2 = c.requires.kept;
+  by_index = λ who part so_far.
+      site-alike c.args.file.now who c.args.k c.requires.le_k.0 part c.first_bearer-found.result (omega arith) (sym (c.first_bearer-found.ensures who so_far.chains)) c.args.heads.now c.args.nexts.now c.args.seconds.now
+      (sym c.alike.ensures ∙ c.if-alike.true) so_far;
+}
 
 pub note_second-requires : goal.note_second-requires
 note_second-requires c =
@@ -56,9 +56,9 @@ note_second-requires c =
 
 pub returns : goal.returns
 returns c = record {
-      kept_2 = c.note_second.ensures.kept_2;
-      by_index = λ who part so_far.
-          let e = sym (c.first_bearer-found.ensures who so_far.chains) in
-          let other = sym c.alike.ensures ∙ c.if-alike.false in
-          site_unlike c.args.file.now who c.args.k c.requires.le_k.0 part c.first_bearer-found.result (omega arith) e c.args.heads.now c.args.nexts.now c.args.seconds.now _ other (c.note_second.ensures.by_index who part e other so_far.elsewhere) so_far;
-    }
+  kept_2 = c.note_second.ensures.kept_2;
+  by_index = λ who part so_far.
+      let e = sym (c.first_bearer-found.ensures who so_far.chains) in
+      let other = sym c.alike.ensures ∙ c.if-alike.false in
+      site_unlike c.args.file.now who c.args.k c.requires.le_k.0 part c.first_bearer-found.result (omega arith) e c.args.heads.now c.args.nexts.now c.args.seconds.now _ other (c.note_second.ensures.by_index who part e other so_far.elsewhere) so_far;
+}

@@ -18,6 +18,6 @@ returns-then-kept_code-eq0 c =
 
 pub returns-else-kept_code-eq0 : goal.returns-else-kept_code-eq0
 returns-else-kept_code-eq0 c = record {
-      kept_2 = c.kept_code.ensures.kept_2;
-      by_index = λ who part none so_far. site_broken c.args.file.now who c.args.k c.requires.le_k.0 part c.args.heads.now c.args.nexts.now c.args.seconds.now (λ z. c.if-kept_code-eq0.false (c.kept_code.ensures.value ∙ z)) so_far;
-    }
+  kept_2 = c.kept_code.ensures.kept_2;
+  by_index = λ who part none so_far. site_broken c.args.file.now who c.args.k c.requires.le_k.0 part c.args.heads.now c.args.nexts.now c.args.seconds.now (λ z. c.if-kept_code-eq0.false (c.kept_code.ensures.value ∙ z)) so_far;
+}

@@ -4,7 +4,7 @@ use lib.ListN.{length}
 use Rattle.column_vectors.proofs.run.Given as goal
 
 abbrev pub invariant-loop-at : goal.invariant-loop-at
-invariant-loop-at l = (at ≤ length l.s) × (count ≤ at)
+invariant-loop-at l = (l.at ≤ length l.s) × (l.count ≤ l.at)
 
 abbrev pub decreases-loop-at : goal.decreases-loop-at
-decreases-loop-at l = length l.s - at
+decreases-loop-at l = length l.s - l.at

@@ -1,7 +1,8 @@
 -- `coordination_flaws::coordination_flaw` meets its contract, code by code; above them lie the codes between fields.
 use mathlib.Core.Path.{ap, ◌∙◌}
 use native.Mathlib.Omega.{arith}
-use Rattle.fields.specs.Table.{fits_at}
+use Rattle.fields.specs.Table.{fits_at, station_table}
+use Rattle.flaw_parts.specs.Parts.{flaws_from}
 use Rattle.station.specs.Places.{fields_of}
 use Rattle.coordination_flaws.specs.Flaws.{record_flaw}
 use mathlib.Core.Bool.{cond}
@@ -40,4 +41,4 @@ returns-in-30 c = coded (record_flaw c.args.rec.now) _ 30 _ c.in-30.is c.referen
 
 pub returns-in_default : goal.returns-in_default
 unfolding record_flaw
-returns-in_default c = beyond _ _ (past 30 _ (past 29 _ (past 28 _ (past 27 _ (past 26 _ (past 25 _ (past 24 _ c.requires.1 c.in_default.in_default-own.rest.0.0.0.0.0.0.1) c.in_default.in_default-own.rest.0.0.0.0.0.1) c.in_default.in_default-own.rest.0.0.0.0.1) c.in_default.in_default-own.rest.0.0.0.1) c.in_default.in_default-own.rest.0.0.1) c.in_default.in_default-own.rest.0.1) c.in_default.in_default-own.rest.1)
+returns-in_default c = beyond (flaws_from 1 station_table (fields_of c.args.rec.now)) _ (past 30 _ (past 29 _ (past 28 _ (past 27 _ (past 26 _ (past 25 _ (past 24 _ c.requires.1 c.in_default.in_default-own.rest.0.0.0.0.0.0.1) c.in_default.in_default-own.rest.0.0.0.0.0.1) c.in_default.in_default-own.rest.0.0.0.0.1) c.in_default.in_default-own.rest.0.0.0.1) c.in_default.in_default-own.rest.0.0.1) c.in_default.in_default-own.rest.0.1) c.in_default.in_default-own.rest.1)

@@ -7,6 +7,6 @@ use Rattle.desk_operators.proofs.put_row.Goals as goal
 pub returns : goal.returns
 unfolding spell_row
 returns c = record {
-      appended = then c.put_head-head_end.ensures.appended (then (rw c.hundredths_bytes-low.ensures at c.put_text-low_end.ensures) (rw c.hundredths_bytes-high.ensures at c.put_text.ensures));
-      upper_bound = omega (arith, c.put_head-head_end.ensures.upper_bound, c.put_text-low_end.ensures.ends, c.put_text.ensures.ends);
-    }
+  appended = then c.put_head-head_end.ensures.appended (then (rw c.hundredths_bytes-low.ensures at c.put_text-low_end.ensures) (rw c.hundredths_bytes-high.ensures at c.put_text.ensures));
+  upper_bound = omega (arith, c.put_head-head_end.ensures.upper_bound, c.put_text-low_end.ensures.ends, c.put_text.ensures.ends);
+}

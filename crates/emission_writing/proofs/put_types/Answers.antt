@@ -21,6 +21,6 @@ returns c =
     let g = c.args.g in
     let l : length c.args.s.now ≡ 14 = c.requires in
     let w0 = nothing_yet c.args.s.now in
-    let w1 = then_text w0 7 (omega arith) g.horizontal c.write_text.ensures.s_after (horizontal_wide c) c.write_text.auto.s in
-    let w2 = then_text w1 7 (omega arith) g.vertical c.write_text-2.ensures.s_after (vertical_wide c) c.write_text-2.auto.s in
+    let w1 = then_text w0 7 (omega arith) g.horizontal c.write_text.ensures.s_after (horizontal_wide (goal.at.returns c).Start) c.write_text.auto.s in
+    let w2 = then_text w1 7 (omega arith) g.vertical c.write_text-2.ensures.s_after (vertical_wide (goal.at.returns c).Start) c.write_text-2.auto.s in
     all_written w2 l

@@ -20,9 +20,9 @@ returns-then-not-is_done c =
 
 pub put_file-requires : goal.put_file-requires
 put_file-requires c = record {
-      in_bounds = search rules;
-      file_value = taken c.args.file.now c.check_file-outcome.ensures c.is_done.ensures c.if-not-is_done.false-raw;
-    }
+  in_bounds = search rules;
+  file_value = taken c.args.file.now c.check_file-outcome.ensures c.is_done.ensures c.if-not-is_done.false-raw;
+}
 
 pub returns : goal.returns
 returns c =

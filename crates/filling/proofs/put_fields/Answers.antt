@@ -73,8 +73,7 @@ loop-k-preserved c =
     let w = c.width_after-w.result in
     let end = rw (← c.loop-k.invariant.0) at (room (goal.at.loop-k-preserved c).After-side_after-side) in
     let short = c.if-w-n.false in
-    let put = c.put_field-n.ensures.0 in
-    (
+    let put = c.put_field-n.ensures.0 in (
       search rules,
       part_filled station_sides station_places c.args.line.now c.loop-k.rec c.loop-k.k c.loop-k.at c.loop-k.column c.loop-k.invariant.1 refl c.loop-k-test.true _ _ _ _ _
           c.width_after-w.ensures c.side_after-side.ensures refl (short_there c.args.line.now c.loop-k.rec c.loop-k.at c.loop-k.column w c.loop-k.invariant.1.inside end _ _ _ short put) c.past-at.ensures.0 (c.past-at.ensures.1 ∙ next_there c.args.line.now c.loop-k.rec c.loop-k.at c.loop-k.column w c.loop-k.invariant.1.inside end _ _ _ short put) (padded_there c.args.line.now c.loop-k.rec c.loop-k.at c.loop-k.column w c.loop-k.invariant.1.inside end _ _ _ short put),

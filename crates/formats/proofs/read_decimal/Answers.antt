@@ -17,17 +17,14 @@ use Rattle.formats.proofs.read_decimal.Goals as goal
 use Rattle.formats.proofs.read_decimal.Goals.{After-magnitude_of-w}
 
 -- what was read, where its bytes are judged as the field admits them
-read : (m : tie.After-magnitude-of) (r : Signed) → let g = m.before.before.before.before in let a = g.before.before.before.before.before.before.args in
-    r ≡ in_sign (unread (admits_decimal g.may-sign.result) a.s.now) m.before.before.has-minus.result m.magnitude-of.result → r ≡ format_of a.format a.s.now
+read : (c : After-magnitude_of-w) → (r : Signed) → r ≡ in_sign (unread (admits_decimal c.may_sign-sign.result) c.args.s.now) c.has_minus-minus.result c.magnitude_of-w.result → r ≡ format_of c.args.format c.args.s.now
 unfolding decimal_of
-read m r h =
-    let g = m.before.before.before.before in
-    let p = g.before.before.before.before in
-    let s = p.before.before.args.s.now in
-    rw (← g.may-sign.ensures, ← g.before.digits-after.ensures, ← g.before.before.digits-before.ensures)
-    (number_read g.may-sign.result (admits_decimal g.may-sign.result) (magnitude_of g.before.before.digits-before.result g.before.digits-after.result) s p.spaces.result
-    p.spaces.ensures.1 p.spaces.ensures.0 g.before.before.before.if1.false (from_on s p.spaces.result)
-    m.before.before.has-minus.ensures m.before.after-sign.ensures m.magnitude-of.ensures h)
+read c r h =
+    let s = c.args.s.now in
+    rw (← c.may_sign-sign.ensures, ← c.digits_after-b.ensures, ← c.digits_before-a.ensures)
+    (number_read c.may_sign-sign.result (admits_decimal c.may_sign-sign.result) (magnitude_of c.digits_before-a.result c.digits_after-b.result) s c.spaces-i.result
+    c.spaces-i.ensures.1 c.spaces-i.ensures.0 c.if-i-s.false (from_on s c.spaces-i.result)
+    c.has_minus-minus.ensures c.after_sign.ensures c.magnitude_of-w.ensures h)
 
 -- and what is known of its size
 small : (c : After-magnitude_of-w) → amount c.magnitude_of-w.result < 10 ^ 18
@@ -54,9 +51,9 @@ in_sign-requires-else-sign c = (small (goal.at.in_sign-requires-else-sign c).Aft
 pub returns-then-sign : goal.returns-then-sign
 returns-then-sign c =
     let s = c.args.s.now in
-    read c _ (c.in_sign.ensures ∙ ap (λ (x : Flaw). in_sign x c.has_minus-minus.result c.magnitude_of-w.result) (signed_decimal s ∙ ap (λ (b : Bool). unread (admits_decimal b) s) (sym c.if-sign.true)))
+    (read (goal.at.returns-then-sign c).After-magnitude_of-w) _ (c.in_sign.ensures ∙ ap (λ (x : Flaw). in_sign x c.has_minus-minus.result c.magnitude_of-w.result) (signed_decimal s ∙ ap (λ (b : Bool). unread (admits_decimal b) s) (sym c.if-sign.true)))
 
 pub returns-else-sign : goal.returns-else-sign
 returns-else-sign c =
     let s = c.args.s.now in
-    read c _ (c.in_sign-else-sign.ensures ∙ ap (λ (x : Flaw). in_sign x c.has_minus-minus.result c.magnitude_of-w.result) (plain-decimal s ∙ ap (λ (b : Bool). unread (admits_decimal b) s) (sym c.if-sign.false)))
+    (read (goal.at.returns-else-sign c).After-magnitude_of-w) _ (c.in_sign-else-sign.ensures ∙ ap (λ (x : Flaw). in_sign x c.has_minus-minus.result c.magnitude_of-w.result) (plain-decimal s ∙ ap (λ (b : Bool). unread (admits_decimal b) s) (sym c.if-sign.false)))

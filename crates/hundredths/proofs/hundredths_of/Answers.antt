@@ -9,10 +9,9 @@ use Rattle.hundredths.proofs.hundredths_of.Goals as goal
 
 pub overflow_mul-result : goal.overflow_mul-result
 overflow_mul-result c =
-    let known = c.v-1.given in
-    let n = known.0.0 in
-    let u = known.0.1.0 in
-    let fits : frequency_fits (frequency.Filled n u) ≡ true = ap frequency_fits (sym known.1) ∙ c.requires in
+    let n = c.in-Filled.n in
+    let u = c.in-Filled.unit in
+    let fits : frequency_fits (frequency.Filled n u) ≡ true = ap frequency_fits (sym c.in-Filled.is) ∙ c.requires in
     record { fits = rw c.step_of-step.ensures (step_fits n u (fits_below n u fits)) }
 
 pub returns-in-Blank : goal.returns-in-Blank

@@ -5,7 +5,7 @@ use lib.ListN.{length}
 use Rattle.intake.proofs.read_input.Given as goal
 
 abbrev pub invariant-loop-at : goal.invariant-loop-at
-invariant-loop-at l = (length l.initial.at ≡ length l.initial.input) × (l.input ≤ length l.initial.at)
+invariant-loop-at g l = (length l.space ≡ length l.initial.space) × (l.at ≤ length l.space)
 
 abbrev pub decreases-loop-at : goal.decreases-loop-at
-decreases-loop-at l = length l.initial.at - l.input
+decreases-loop-at g l = length l.initial.space - l.at

@@ -42,12 +42,11 @@ put_marked-requires c =
     mark-room station_sides station_places c.args.rec.now c.loop-k.out c.loop-k.k c.loop-k.column c.loop-k.at c.loop-k.invariant.1 refl c.loop-k-test.true _ _ _ c.width_after.ensures c.side_after.ensures c.outgoing-text.ensures
 
 pub loop-k-preserved : goal.loop-k-preserved
-loop-k-preserved c =
-    (
-      search rules,
-      next_lined station_sides station_places c.args.rec.now c.loop-k.out c.loop-k.k c.loop-k.column c.loop-k.at c.loop-k.invariant.1 refl c.loop-k-test.true _ _ _ c.width_after.ensures c.side_after.ensures c.outgoing-text.ensures
-          _ _ 29 c.mark_after.ensures refl (search rules) c.put_marked.ensures,
-    )
+loop-k-preserved c = (
+  search rules,
+  next_lined station_sides station_places c.args.rec.now c.loop-k.out c.loop-k.k c.loop-k.column c.loop-k.at c.loop-k.invariant.1 refl c.loop-k-test.true _ _ _ c.width_after.ensures c.side_after.ensures c.outgoing-text.ensures
+      _ _ 29 c.mark_after.ensures refl (search rules) c.put_marked.ensures,
+)
 
 pub returns : goal.returns
 unfolding fields_of

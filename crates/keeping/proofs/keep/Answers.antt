@@ -17,4 +17,4 @@ pub returns : goal.returns
 unfolding text_in
 returns c =
     rw (eq-eqb (length c.args.t.now) (length c.args.s.now) (sym c.if-s-t.false))
-    (c.copy_from_slice.ensures.after ∙ rw (take-length c.args.t.now, drop_of_length-le c.args.s.now {i = length c.args.t.now} (omega arith)) (append-nil c.args.t.now))
+    c.copy_from_slice.ensures.after

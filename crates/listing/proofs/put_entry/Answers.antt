@@ -7,9 +7,9 @@ use Rattle.listing.proofs.put_entry.Goals as goal
 
 pub returns-then-code-gt0 : goal.returns-then-code-gt0
 returns-then-code-gt0 c = record {
-      appended = broken-put c.args.file.now c.args.out.now c.args.start (c.args.i + 1) c.requires.i_bound.1 c.requires.start_in_bounds _ _ _ _ c.record_in.ensures.0 c.record_to_line-written.ensures c.code_with-code.ensures (λ z. omega (arith, z, c.if-code-gt0.true)) c.put_broken.ensures.appended;
-      upper_bound = search rules;
-    }
+  appended = broken-put c.args.file.now c.args.out.now c.args.start (c.args.i + 1) c.requires.i_bound.1 c.requires.start_in_bounds _ _ _ _ c.record_in.ensures.0 c.record_to_line-written.ensures c.code_with-code.ensures (λ z. omega (arith, z, c.if-code-gt0.true)) c.put_broken.ensures.appended;
+  upper_bound = search rules;
+}
 
 pub overflow_add-result : goal.overflow_add-result
 overflow_add-result c =

@@ -24,9 +24,9 @@ pub returns-then-is_negative : goal.returns-then-is_negative
 unfolding spell_signed
 returns-then-is_negative c =
     put-minus c.args.s.now c.put_digits.new.s _ c.requires c.put_digits.ensures.1
-    ∙ rw (← told c, c.if-is_negative.true, c.magnitude.ensures, to_z-of_z c.ranges.v)
+    ∙ rw (← (told (goal.at.returns-then-is_negative c).After-is_negative), c.if-is_negative.true, c.magnitude.ensures, to_z-of_z c.ranges.v)
 
 pub returns : goal.returns
 unfolding spell_signed
 returns c =
-    c.put_whole.ensures ∙ rw (← told c, c.if-is_negative.false, c.magnitude-2.ensures, to_z-of_z c.ranges.v)
+    c.put_whole.ensures ∙ rw (← (told (goal.at.returns c).After-is_negative), c.if-is_negative.false, c.magnitude-2.ensures, to_z-of_z c.ranges.v)

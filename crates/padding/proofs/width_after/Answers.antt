@@ -5,6 +5,7 @@ use mir.Syntax.{w64}
 use Rattle.columns.specs.Texts.{every}
 use Rattle.station.specs.Places.{station_places}
 use Rattle.padding.proofs.PutLaws.{widths, width_at, all_below}
+use borrow.Author.Rules.{Fits-under}
 use Rattle.padding.proofs.width_after.Goals as goal
 
 pub overflow_cast-result : goal.overflow_cast-result

@@ -17,7 +17,7 @@ use Rattle.positions.proofs.ArcLaws.{arc_good_lem, arc_reads_lem, arc_value, arc
 use Rattle.positions.proofs.Letters.{places-letters}
 use Rattle.numerals.proofs.Signs.{in_bits}
 use Rattle.positions.proofs.read_position.Goals as goal
-use Rattle.positions.proofs.read_position.Goals.{After-is_arc, After-is_arc-2, Else-s-ne15}
+use Rattle.positions.proofs.read_position.Goals.{After-arc_in-north, After-is_arc, After-is_arc-2, Else-s-ne15}
 
 -- fifteen columns
 long : (c : Else-s-ne15) → sized 15 c.args.s.now ≡ true
@@ -36,17 +36,15 @@ north c rest =
     c.is_arc-2.ensures ∙ arc_good_lem 2 _ c.arc_in-north.ensures "N" "S" 90 ∙ ap (arc_good 2 "NS" 90) (rest)
 
 -- what is wrong with halves that are no place is wrong with the columns
-wrong : (c : tie.After-arc-in2) (r : Flaw) → let e = c.before.before in let s = e.before.before.before.before.args.s.now in
-    r ≡ cond ((whole_filled e.arc-in.result.degrees && (eqb e.arc-in.result.letter 69 || (eqb e.arc-in.result.letter 87 || false)) && whole_filled e.arc-in.result.minutes && whole_filled e.arc-in.result.seconds)
-    && (whole_filled c.arc-in2.result.degrees && (eqb c.arc-in2.result.letter 78 || (eqb c.arc-in2.result.letter 83 || false)) && whole_filled c.arc-in2.result.minutes && whole_filled c.arc-in2.result.seconds))
+wrong : (c : After-arc_in-north) → (sized 15 c.args.s.now ≡ true) → (let s = c.args.s.now in take 7 (drop 8 s) ≡ drop 8 s) → (r : Flaw) → let s = c.args.s.now in
+    r ≡ cond ((whole_filled c.arc_in-east.result.degrees && (eqb c.arc_in-east.result.letter 69 || (eqb c.arc_in-east.result.letter 87 || false)) && whole_filled c.arc_in-east.result.minutes && whole_filled c.arc_in-east.result.seconds)
+    && (whole_filled c.arc_in-north.result.degrees && (eqb c.arc_in-north.result.letter 78 || (eqb c.arc_in-north.result.letter 83 || false)) && whole_filled c.arc_in-north.result.minutes && whole_filled c.arc_in-north.result.seconds))
     flaw.Range (unread admits_position s)
     → r ≡ unread_position s
 unfolding unread_position position_reads
-wrong c r h =
-    let e = c.before.before in
-    let l = e.before.before in
-    let s = l.before.before.args.s.now in
-    h ∙ rw (arc_reads_lem 3 (take 8 s) e.arc-in.ensures "E" "W", arc_reads_lem 2 (take 7 (drop 8 s)) c.arc-in2.ensures "N" "S", rest l, long l)
+wrong c long rest r h =
+    let s = c.args.s.now in
+    h ∙ rw (arc_reads_lem 3 (take 8 s) c.arc_in-east.ensures "E" "W", arc_reads_lem 2 (take 7 (drop 8 s)) c.arc_in-north.ensures "N" "S", rest, long)
 
 pub returns-then-s-ne15 : goal.returns-then-s-ne15
 unfolding located_of position_good unread_position position_reads
@@ -55,27 +53,27 @@ returns-then-s-ne15 c = rw (ne_eqb _ _ c.if-s-ne15.true) (ap located.Bad (c.unre
 pub returns-then-not-is_arc : goal.returns-then-not-is_arc
 unfolding located_of position_good
 returns-then-not-is_arc c =
-    rw ((long (goal.at.returns-then-not-is_arc c).Else-s-ne15), ← (east (goal.at.returns-then-not-is_arc c).After-is_arc), not-true c.is_arc.result c.if-not-is_arc.true-raw) (ap located.Bad (wrong c _ c.unread_position.ensures))
+    rw ((long (goal.at.returns-then-not-is_arc c).Else-s-ne15), ← (east (goal.at.returns-then-not-is_arc c).After-is_arc), not-true c.is_arc.result c.if-not-is_arc.true-raw) (ap located.Bad ((wrong (goal.at.returns-then-not-is_arc c).After-arc_in-north (long (goal.at.returns-then-not-is_arc c).Else-s-ne15) (rest (goal.at.returns-then-not-is_arc c).Else-s-ne15)) _ c.unread_position.ensures))
 
 pub returns-then-not-is_arc-2 : goal.returns-then-not-is_arc-2
 unfolding located_of position_good
 returns-then-not-is_arc-2 c =
-    rw (long c, ← east c, not-false c.is_arc.result c.if-not-is_arc.false-raw, ← (north (goal.at.returns-then-not-is_arc-2 c).After-is_arc-2 (rest (goal.at.returns-then-not-is_arc-2 c).Else-s-ne15)), not-true c.is_arc-2.result c.if-not-is_arc-2.true-raw) (ap located.Bad (wrong c _ c.unread_position-then-not-is_arc-2.ensures))
+    rw ((long (goal.at.returns-then-not-is_arc-2 c).Else-s-ne15), ← (east (goal.at.returns-then-not-is_arc-2 c).After-is_arc), not-false c.is_arc.result c.if-not-is_arc.false-raw, ← (north (goal.at.returns-then-not-is_arc-2 c).After-is_arc-2 (rest (goal.at.returns-then-not-is_arc-2 c).Else-s-ne15)), not-true c.is_arc-2.result c.if-not-is_arc-2.true-raw) (ap located.Bad ((wrong (goal.at.returns-then-not-is_arc-2 c).After-arc_in-north (long (goal.at.returns-then-not-is_arc-2 c).Else-s-ne15) (rest (goal.at.returns-then-not-is_arc-2 c).Else-s-ne15)) _ c.unread_position-then-not-is_arc-2.ensures))
 
 pub arc_seconds-requires : goal.arc_seconds-requires
 arc_seconds-requires c = arc_few 3 _ c.arc_in-east.ensures "EW" 180 (sym (east (goal.at.arc_seconds-requires c).After-is_arc) ∙ c.if-not-is_arc.false) (omega arith)
 
 pub arc_seconds-requires-2 : goal.arc_seconds-requires-2
 arc_seconds-requires-2 c =
-    arc_few 2 _ c.arc_in-north.ensures "NS" 90 (ap (arc_good 2 "NS" 90) (rest c) ∙ sym (north (goal.at.arc_seconds-requires-2 c).After-is_arc-2 (rest (goal.at.arc_seconds-requires-2 c).Else-s-ne15)) ∙ c.if-not-is_arc-2.false) (omega arith)
+    arc_few 2 _ c.arc_in-north.ensures "NS" 90 (ap (arc_good 2 "NS" 90) (rest (goal.at.arc_seconds-requires-2 c).Else-s-ne15) ∙ sym (north (goal.at.arc_seconds-requires-2 c).After-is_arc-2 (rest (goal.at.arc_seconds-requires-2 c).Else-s-ne15)) ∙ c.if-not-is_arc-2.false) (omega arith)
 
 pub returns : goal.returns
 unfolding located_of position_good position_of
 returns c =
     let s = c.args.s.now in
     rw (
-      long c,
-      ← east c,
+      (long (goal.at.returns c).Else-s-ne15),
+      ← (east (goal.at.returns c).After-is_arc),
       not-false c.is_arc.result c.if-not-is_arc.false-raw,
       ← (north (goal.at.returns c).After-is_arc-2 (rest (goal.at.returns c).Else-s-ne15)),
       not-false c.is_arc-2.result c.if-not-is_arc-2.false-raw,
@@ -85,5 +83,5 @@ returns c =
       c.arc_seconds-2.ensures,
       arc_value 3 (take 8 s) c.arc_in-east.ensures "W",
       arc_value 2 (take 7 (drop 8 s)) c.arc_in-north.ensures "S",
-      rest c,
+      (rest (goal.at.returns c).Else-s-ne15),
     )

@@ -24,6 +24,6 @@ put_quoted-requires c =
 pub returns : goal.returns
 unfolding field_text
 returns c = record {
-      appended = rw (← c.station_place-place.ensures) (then c.put_text-gap.ensures (then c.put_name-name_end.ensures.appended (then c.put_columns-columns_end.ensures.appended c.put_quoted.ensures.appended)));
-      upper_bound = omega (arith, c.put_text-gap.ensures.ends, c.put_name-name_end.ensures.upper_bound, c.put_columns-columns_end.ensures.upper_bound, c.put_quoted.ensures.upper_bound);
-    }
+  appended = rw (← c.station_place-place.ensures) (then c.put_text-gap.ensures (then c.put_name-name_end.ensures.appended (then c.put_columns-columns_end.ensures.appended c.put_quoted.ensures.appended)));
+  upper_bound = omega (arith, c.put_text-gap.ensures.ends, c.put_name-name_end.ensures.upper_bound, c.put_columns-columns_end.ensures.upper_bound, c.put_quoted.ensures.upper_bound);
+}

@@ -27,8 +27,8 @@ unfolding header_pieces
 returns c =
     let l : length c.args.s.now ≡ 100 = c.requires in
     let w0 = nothing_yet c.args.s.now in
-    let w1 = then_text w0 40 (omega arith) c.args.h.mail c.write_text.ensures.s_after (mail_wide c) c.write_text.auto.s in
-    let w2 = then_text w1 20 (omega arith) c.args.h.telephone c.write_text-2.ensures.s_after (telephone_wide c) c.write_text-2.auto.s in
+    let w1 = then_text w0 40 (omega arith) c.args.h.mail c.write_text.ensures.s_after (mail_wide (goal.at.returns c).Start) c.write_text.auto.s in
+    let w2 = then_text w1 20 (omega arith) c.args.h.telephone c.write_text-2.ensures.s_after (telephone_wide (goal.at.returns c).Start) c.write_text-2.auto.s in
     let w3 = then-sized w2 20 (omega arith) (λ (n : ℕ). replicate n 32) c.write_blank.ensures c.write_blank.auto.s in
-    let w4 = then_text w3 20 (omega arith) c.args.h.person c.write_text-3.ensures.s_after (person_wide c) c.write_text-3.auto.s in
+    let w4 = then_text w3 20 (omega arith) c.args.h.person c.write_text-3.ensures.s_after (person_wide (goal.at.returns c).Start) c.write_text-3.auto.s in
     all_written w4 l

@@ -31,5 +31,5 @@ returns c =
     let w0 = nothing_yet c.args.s.now in
     let w1 = then-sized w0 6 (omega arith) (λ (n : ℕ). spell_whole n c.args.h.count) c.put_whole.ensures c.put_whole.auto.s in
     let w2 = then_fitting w1 8 (omega arith) (spell_day c.args.h.date) c.write_day.ensures.s_after (may_stand c.args.h.date c.requires.1) c.write_day.auto.s in
-    let w3 = then_text w2 3 (omega arith) c.args.h.destination c.write_text.ensures.s_after (destination_wide c) c.write_text.auto.s in
+    let w3 = then_text w2 3 (omega arith) c.args.h.destination c.write_text.ensures.s_after (destination_wide (goal.at.returns c).Start) c.write_text.auto.s in
     all_written w3 l

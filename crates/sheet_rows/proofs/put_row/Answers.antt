@@ -17,6 +17,5 @@ returns c =
     let start = row_width * c.args.i in
     let t = c.args.row in
     let e : start + row_width - start ≡ row_width = add-sub_cancel_left start row_width in
-    let l : length (mid_of start (start + row_width - start) s) ≡ length t = mid_len start (start + row_width) s (search rules) ∙ (omega arith) in
-    let f : c.copy_from_slice.new.src ≡ t = c.copy_from_slice.ensures.after ∙ copy_all t _ l in
+    let f : c.copy_from_slice.new.self ≡ t = c.copy_from_slice.ensures.after in
     rw (f, e, drop-drop row_width start s)

@@ -4,12 +4,12 @@ use Rattle.sites.proofs.kept_code.Goals as goal
 
 pub returns-then-held : goal.returns-then-held
 returns-then-held c = record {
-      value = c.requires.kept.right c.args.k c.requires.k_le_most_stations c.if-held.true;
-      kept_2 = c.requires.kept;
-    }
+  value = c.requires.kept.right c.args.k c.requires.k_le_most_stations c.if-held.true;
+  kept_2 = c.requires.kept;
+}
 
 pub returns : goal.returns
 returns c = record {
-      value = c.code-own.ensures;
-      kept_2 = one_kept c.args.file.now c.args.codes.now c.args.k _ c.requires.k_le_most_stations c.code-own.ensures c.requires.kept;
-    }
+  value = c.code-own.ensures;
+  kept_2 = one_kept c.args.file.now c.args.codes.now c.args.k _ c.requires.k_le_most_stations c.code-own.ensures c.requires.kept;
+}

@@ -16,5 +16,4 @@ returns-in-Blank c =
 pub returns-in-Filled : goal.returns-in-Filled
 unfolding spell_tenths
 returns-in-Filled c =
-    let v = c.v-1.given in
-    c.put_format.ensures ∙ rw (in_bits v.0.0 c.in-Filled.known_told-1-own.given.0.1, v.1)
+    c.put_format.ensures ∙ rw (in_bits c.in-Filled.z c.in-Filled.known_told-1-own.given.0.1, c.in-Filled.is)

@@ -17,6 +17,5 @@ returns c =
     let n = c.args.n in
     let t = c.standing_trailer-trailer.result in
     let size : length t ≡ trailer_length = ap length c.standing_trailer-trailer.ensures in
-    let l : length (mid_of (row_width * n) (length s - row_width * n) s) ≡ length t = mid_len (row_width * n) (length s) s (search rules) ∙ (omega arith) in
-    let f : c.copy_from_slice.new.src ≡ t = c.copy_from_slice.ensures.after ∙ copy_all t (mid_of (row_width * n) (length s - row_width * n) s) l in
+    let f : c.copy_from_slice.new.self ≡ t = c.copy_from_slice.ensures.after in
     rw f (back_from s t (row_width * n) ∙ rw c.standing_trailer-trailer.ensures)

@@ -18,8 +18,7 @@ write_spelled-requires c =
 
 pub returns : goal.returns
 returns c =
-    let own = spelled_own c.args.s (sym c.typed_code-code.ensures ∙ c.if-code-ne0.false) _ c.put_station.ensures in
-    (
+    let own = spelled_own c.args.s (sym c.typed_code-code.ensures ∙ c.if-code-ne0.false) _ c.put_station.ensures in (
       c.write_spelled.ensures.0 ∙ ap (λ (s : Station). write_line_outcome s c.args.buffer.now) own.2,
       c.write_spelled.ensures.1 ∙ ap (λ (s : Station). line_length s c.args.buffer.now) own.2,
       c.write_spelled.ensures.2 ∙ ap (λ (s : Station). written_line s c.args.buffer.now) own.2,

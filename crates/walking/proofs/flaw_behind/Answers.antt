@@ -29,4 +29,4 @@ returns c =
     c.range_flaw.ensures
     ∙ rw c.first_row.ensures
     (unit_asked c.args.entries.now c.args.rec.now c.args.rows.now c.args.i c.if-kind-ne6.false
-    (sym (ap flawless (told c)) ∙ sym c.is_flawless.ensures ∙ c.if-not-is_flawless.false))
+    (sym (ap flawless (told (goal.at.returns c).After-entry_flaw-said)) ∙ sym c.is_flawless.ensures ∙ c.if-not-is_flawless.false))

@@ -8,6 +8,6 @@ use Rattle.wording.proofs.name_after.Goals as goal
 
 pub returns : goal.returns
 returns c =
-    let is = ten_copied c.args.names.now _ c.args.i c.requires refl in
+    let is = ten_copied c.args.names.now c.args.i c.requires in
     let r = c.copy_from_slice.ensures.after ∙ is.0 in
     (r, ap (λ (l : List ℕ). length l) r ∙ is.1)

@@ -8,6 +8,6 @@ overflow_cast-result c = omega (arith, c.shared_slice_known-1.given c.args.at)
 
 pub returns : goal.returns
 returns c = record {
-      value = refl;
-      upper_bound = omega (arith, c.shared_slice_known-1.given c.args.at);
-    }
+  value = refl;
+  upper_bound = omega (arith, c.shared_slice_known-1.given c.args.at);
+}

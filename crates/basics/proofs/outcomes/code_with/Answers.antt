@@ -10,12 +10,8 @@ use Rattle.basics.specs.declared.Outcome.TheVariants as outcome
 use Rattle.basics.specs.contracts.Outcome.{the_type}
 use Rattle.basics.proofs.outcomes.code_with.Goals as goal
 
--- the variants before the last
-abbrev earlier : List ℕ
-earlier = 0 ∷ 1 ∷ 2 ∷ 3 ∷ 4 ∷ 5 ∷ 6 ∷ 7 ∷ 8 ∷ 9 ∷ 10 ∷ 11 ∷ 12 ∷ 13 ∷ 14 ∷ 15 ∷ []
-
 -- each of them comes with 0
-no_code : (o : Outcome) → OneOf earlier (tag_of the_type o) → 0 ≡ code_with o
+no_code : (o : Outcome) → ((code : ℕ) → o ≡ outcome.RuleBroken code → ⊥) → 0 ≡ code_with o
 unfolding code_with
 no_code outcome.Done k = refl
 no_code outcome.FileTooLong k = refl
@@ -33,11 +29,11 @@ no_code outcome.NotTwelveDigits k = refl
 no_code outcome.LastDigitWrong k = refl
 no_code outcome.NotMobileDefaults k = refl
 no_code outcome.TooFewRows k = refl
-no_code (outcome.RuleBroken c) k = absurd (miss earlier 16 tt k)
+no_code (outcome.RuleBroken c) k = absurd (k c refl)
 
 pub returns-in-RuleBroken : goal.returns-in-RuleBroken
 unfolding code_with
 returns-in-RuleBroken c = rw c.in-RuleBroken.is
 
 pub returns-in_default : goal.returns-in_default
-returns-in_default c = no_code c.args.outcome c.in_default.in_default-own.keys2
+returns-in_default c = no_code c.args.outcome c.in_default.not-RuleBroken

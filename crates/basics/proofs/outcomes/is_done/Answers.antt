@@ -12,14 +12,10 @@ use Rattle.basics.specs.declared.Outcome.TheVariants as outcome
 use Rattle.basics.specs.contracts.Outcome.{the_type}
 use Rattle.basics.proofs.outcomes.is_done.Goals as goal
 
--- the variants after the first
-abbrev later : List ℕ
-later = 1 ∷ 2 ∷ 3 ∷ 4 ∷ 5 ∷ 6 ∷ 7 ∷ 8 ∷ 9 ∷ 10 ∷ 11 ∷ 12 ∷ 13 ∷ 14 ∷ 15 ∷ 16 ∷ []
-
 -- each of them has its number, which is not 0
-refused : (o : Outcome) → OneOf later (tag_of the_type o) → false ≡ eqb (refusal o) 0
+refused : (o : Outcome) → (o ≡ outcome.Done → ⊥) → false ≡ eqb (refusal o) 0
 unfolding refusal
-refused outcome.Done k = absurd (miss later 0 tt k)
+refused outcome.Done k = absurd (k refl)
 refused outcome.FileTooLong k = refl
 refused outcome.FileNotRecords k = refl
 refused outcome.SheetLength k = refl
@@ -42,4 +38,4 @@ unfolding refusal
 returns-in-Done c = rw c.in-Done.is
 
 pub returns-in_default : goal.returns-in_default
-returns-in_default c = refused c.args.outcome c.in_default.in_default-own.keys2
+returns-in_default c = refused c.args.outcome c.in_default.not-Done

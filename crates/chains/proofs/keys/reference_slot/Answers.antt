@@ -6,6 +6,6 @@ use Rattle.chains.proofs.keys.reference_slot.Goals as goal
 pub returns : goal.returns
 unfolding reference_slot
 returns c = record {
-      value = cc;
-      upper_bound = omega arith;
-    }
+  value = cc;
+  upper_bound = omega arith;
+}

@@ -19,13 +19,13 @@ told file j f e = e ∙ sym (ap (λ (x : Key). slot_of x (key_at x file j)) f)
 pub returns-in-Reference : goal.returns-in-Reference
 unfolding slot_of key_at
 returns-in-Reference c = record {
-      value = told _ _ c.in-Reference.is (c.reference_slot.ensures.value ∙ ap reference_slot c.reference.ensures);
-      upper_bound = c.reference_slot.ensures.upper_bound;
-    }
+  value = told _ _ c.in-Reference.is (c.reference_slot.ensures.value ∙ ap reference_slot c.reference.ensures);
+  upper_bound = c.reference_slot.ensures.upper_bound;
+}
 
 pub returns-in-Site : goal.returns-in-Site
 unfolding slot_of key_at
 returns-in-Site c = record {
-      value = told _ _ c.in-Site.is (ap (λ (w : ℕ). w % 251) c.site_number.ensures);
-      upper_bound = omega arith;
-    }
+  value = told _ _ c.in-Site.is (ap (λ (w : ℕ). w % 251) c.site_number.ensures);
+  upper_bound = omega arith;
+}

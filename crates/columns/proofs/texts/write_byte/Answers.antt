@@ -15,13 +15,13 @@ one_byte_lem (x ∷ []) b e = refl
 one_byte_lem (x ∷ y ∷ s) b e = let z : suc (suc (length s)) ≡ 1 = e in absurd (omega arith)
 
 pub returns-then-s-ne1 : goal.returns-then-s-ne1
-returns-then-s-ne1 c = let all = kept _ (ne_eqb _ _ c.if-s-ne1.true) in record {
-      value = all.0;
-      s_after = all.1;
-    }
+returns-then-s-ne1 c = let e = ne_eqb (length c.args.s.now) 1 c.if-s-ne1.true in record {
+  value = rw e;
+  s_after = rw e;
+}
 
 pub returns : goal.returns
-returns c = let all = wrote _ (eq-eqb _ _ c.if-s-ne1.false) (one_byte_lem c.args.s.now c.args.b c.if-s-ne1.false) in record {
-      value = all.0;
-      s_after = all.1;
-    }
+returns c = let e = eq-eqb (length c.args.s.now) 1 c.if-s-ne1.false in record {
+  value = rw e;
+  s_after = rw e (one_byte_lem c.args.s.now c.args.b c.if-s-ne1.false);
+}

@@ -22,6 +22,6 @@ returns c =
     let l : length c.args.s.now ≡ 16 = c.requires in
     let w0 = nothing_yet c.args.s.now in
     let w1 = then_one w0 6 (omega arith) (spell_serial c.args.h.serial) c.put_serial.ensures c.put_serial.auto.s in
-    let w2 = then_text w1 3 (omega arith) c.args.h.version c.write_text.ensures.s_after (version_wide c) c.write_text.auto.s in
-    let w3 = then_text w2 7 (omega arith) c.args.h.reserve c.write_text-2.ensures.s_after (reserve_wide c) c.write_text-2.auto.s in
+    let w2 = then_text w1 3 (omega arith) c.args.h.version c.write_text.ensures.s_after (version_wide (goal.at.returns c).Start) c.write_text.auto.s in
+    let w3 = then_text w2 7 (omega arith) c.args.h.reserve c.write_text-2.ensures.s_after (reserve_wide (goal.at.returns c).Start) c.write_text-2.auto.s in
     all_written w3 l

@@ -24,7 +24,7 @@ returns c =
     let l : length c.args.s.now ≡ 86 = c.requires in
     let w0 = nothing_yet c.args.s.now in
     let w1 = then-sized w0 2 (omega arith) (λ (n : ℕ). spell_whole n c.args.h.number) c.put_whole.ensures c.put_whole.auto.s in
-    let w2 = then_text w1 80 (omega arith) c.args.h.content c.write_text.ensures.s_after (content_wide c) c.write_text.auto.s in
+    let w2 = then_text w1 80 (omega arith) c.args.h.content c.write_text.ensures.s_after (content_wide (goal.at.returns c).Start) c.write_text.auto.s in
     let w3 = then_text w2 1 (omega arith) (c.args.h.letter ∷ []) c.write_byte.ensures.s_after refl c.write_byte.auto.s in
-    let w4 = then_text w3 3 (omega arith) c.args.h.origin c.write_text-2.ensures.s_after (origin_wide c) c.write_text-2.auto.s in
+    let w4 = then_text w3 3 (omega arith) c.args.h.origin c.write_text-2.ensures.s_after (origin_wide (goal.at.returns c).Start) c.write_text-2.auto.s in
     all_written w4 l

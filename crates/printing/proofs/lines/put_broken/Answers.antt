@@ -7,6 +7,6 @@ use Rattle.printing.proofs.lines.put_broken.Goals as goal
 pub returns : goal.returns
 unfolding broken_line
 returns c = record {
-      appended = then c.put_labelled-end.ensures.appended (then c.put_labelled-code_end.ensures.appended c.put_text.ensures);
-      upper_bound = omega (arith, c.put_labelled-end.ensures.upper_bound, c.put_labelled-code_end.ensures.upper_bound, c.put_text.ensures.ends);
-    }
+  appended = then c.put_labelled-end.ensures.appended (then c.put_labelled-code_end.ensures.appended c.put_text.ensures);
+  upper_bound = omega (arith, c.put_labelled-end.ensures.upper_bound, c.put_labelled-code_end.ensures.upper_bound, c.put_text.ensures.ends);
+}

@@ -7,6 +7,6 @@ use Rattle.printing.proofs.lines.put_header.Goals as goal
 pub returns : goal.returns
 unfolding header_line
 returns c = record {
-      appended = then c.put_labelled-end.ensures.appended c.put_text.ensures;
-      upper_bound = search rules;
-    }
+  appended = then c.put_labelled-end.ensures.appended c.put_text.ensures;
+  upper_bound = search rules;
+}

@@ -5,6 +5,6 @@ use Rattle.printing.proofs.pieces.put_labelled.Goals as goal
 
 pub returns : goal.returns
 returns c = record {
-      appended = then c.put_text-end.ensures c.put_number.ensures.appended;
-      upper_bound = search rules;
-    }
+  appended = then c.put_text-end.ensures c.put_number.ensures.appended;
+  upper_bound = search rules;
+}

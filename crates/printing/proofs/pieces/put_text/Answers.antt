@@ -12,5 +12,4 @@ pub returns : goal.returns
 returns c =
     let out = c.args.out.now in
     let text = c.args.text.now in
-    let l : length (mid_of c.args.start (c.args.start + length text - c.args.start) out) ≡ length text = mid_len c.args.start (c.args.start + length text) out c.requires ∙ add-sub_cancel_left c.args.start (length text) in
-    put_in out text _ c.args.start (length text) refl c.requires (c.copy_from_slice.ensures.after ∙ copy_all text _ l)
+    put_in out text _ c.args.start (length text) refl c.requires c.copy_from_slice.ensures.after

@@ -15,9 +15,9 @@ use Rattle.replacing.proofs.records.replace.Goals as goal
 
 pub returns-then-not-is_done : goal.returns-then-not-is_done
 returns-then-not-is_done c = let all = replace_refused c.args.file.now c.args.sheet.now c.args.k c.args.rec.now c.replace_outcome-outcome.ensures (sym c.is_done.ensures ∙ c.if-not-is_done.true) in record {
-      record_replaced = all.0;
-      still_judged = all.1;
-    }
+  record_replaced = all.0;
+  still_judged = all.1;
+}
 
 pub replace_header-requires : goal.replace_header-requires
 replace_header-requires c =

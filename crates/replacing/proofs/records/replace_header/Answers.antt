@@ -9,6 +9,6 @@ use Rattle.replacing.proofs.records.replace_header.Goals as goal
 pub returns : goal.returns
 unfolding mended_sheet
 returns c = record {
-      file_after = c.put_record.ensures;
-      sheet_after = c.put_trailer.ensures ∙ ap (λ (head : ℕ). with_trailer c.args.n head (take (row_width * c.args.n) c.args.sheet.now)) c.filed_header_code-head.ensures;
-    }
+  file_after = c.put_record.ensures;
+  sheet_after = c.put_trailer.ensures ∙ ap (λ (head : ℕ). with_trailer c.args.n head (take (row_width * c.args.n) c.args.sheet.now)) c.filed_header_code-head.ensures;
+}

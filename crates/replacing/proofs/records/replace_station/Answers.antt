@@ -9,6 +9,9 @@ use Rattle.mending.proofs.RowsMended.{station_rows, station_sheet}
 use native.Mathlib.Omega.{arith}
 use Rattle.replacing.proofs.records.replace_station.Goals as goal
 
+pub copy_from_slice-requires : goal.copy_from_slice-requires
+copy_from_slice-requires c = sym (ap length c.site.ensures ∙ site_wide c.args.file.now c.args.k (omega (arith, c)))
+
 pub returns : goal.returns
 returns c =
     let file = c.args.file.now in
@@ -16,7 +19,7 @@ returns c =
     let r = c.args.rec.now in
     let positive : 1 ≤ c.args.k = omega (arith, c) in
     let wide : length (site_at file c.args.k) ≡ 6 = site_wide file c.args.k (omega (arith, c)) in
-    let old = c.copy_from_slice.ensures.after ∙ copy_all c.site.result.now _ (sym (ap length c.site.ensures ∙ wide)) ∙ c.site.ensures in
+    let old = c.copy_from_slice.ensures.after ∙ c.site.ensures in
     let closed = rw c.head_code-head.ensures at c.put_trailer.ensures in
     record {
       value = c.mend_rows-written.ensures.value ∙ station_rows file sheet c.args.k r c.args.n positive c.put_record.ensures old;

@@ -21,6 +21,6 @@ returns c =
     let w0 = nothing_yet c.args.s.now in
     let w1 = then_one w0 11 (omega arith) (spell_amount g.receive) c.put_amount.ensures c.put_amount.auto.s in
     let w2 = then_one w1 1 (omega arith) (spell_unit g.receive) c.put_unit.ensures c.put_unit.auto.s in
-    let w3 = then_text w2 50 (omega arith) g.remarks c.write_text.ensures.s_after (remarks_wide c) c.write_text.auto.s in
+    let w3 = then_text w2 50 (omega arith) g.remarks c.write_text.ensures.s_after (remarks_wide (goal.at.returns c).Start) c.write_text.auto.s in
     let w4 = then_some w3 32 (omega arith) (drop 3 (coordination_pieces g)) c.put_status.ensures c.put_status.auto.s in
     all_written w4 l

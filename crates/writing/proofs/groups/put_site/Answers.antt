@@ -23,7 +23,7 @@ returns c =
     let l : length c.args.s.now ≡ 55 = c.requires in
     let w0 = nothing_yet c.args.s.now in
     let w1 = then_one w0 8 (omega arith) (spell_day g.started) c.put_day.ensures c.put_day.auto.s in
-    let w2 = then_text w1 20 (omega arith) g.name c.write_text.ensures.s_after (name_wide c) c.write_text.auto.s in
-    let w3 = then_text w2 3 (omega arith) g.country c.write_text-2.ensures.s_after (country_wide c) c.write_text-2.auto.s in
+    let w2 = then_text w1 20 (omega arith) g.name c.write_text.ensures.s_after (name_wide (goal.at.returns c).Start) c.write_text.auto.s in
+    let w3 = then_text w2 3 (omega arith) g.country c.write_text-2.ensures.s_after (country_wide (goal.at.returns c).Start) c.write_text-2.auto.s in
     let w4 = then_some w3 24 (omega arith) (drop 3 (site_pieces g)) c.put_location.ensures c.put_location.auto.s in
     all_written w4 l

@@ -23,5 +23,5 @@ returns c =
     let w1 = then_text w0 1 (omega arith) (g.status ∷ []) c.write_byte.ensures.s_after refl c.write_byte.auto.s in
     let w2 = then_one w1 8 (omega arith) (spell_day g.requested) c.put_day.ensures c.put_day.auto.s in
     let w3 = then_one w2 8 (omega arith) (spell_day g.coordinated) c.put_day-2.ensures c.put_day-2.auto.s in
-    let w4 = then_text w3 15 (omega arith) g.reference c.write_text.ensures.s_after (reference_wide c) c.write_text.auto.s in
+    let w4 = then_text w3 15 (omega arith) g.reference c.write_text.ensures.s_after (reference_wide (goal.at.returns c).Start) c.write_text.auto.s in
     all_written w4 l

@@ -1,9 +1,9 @@
--- `faults::fields::next_field` meets its contract: behind the last byte nothing stands.
+-- `faults::long_fields::next_field` meets its contract: behind the last byte nothing stands.
 use mathlib.Core.Path.{sym, ◌∙◌}
 use Prim.Native.Nat.{◌+◌, ◌≤◌}
 use lib.ListN.{length, drop_of_length-le}
 use native.Mathlib.Omega.{arith}
-use Rattle.faults.proofs.fields.next_field.Goals as goal
+use Rattle.faults.proofs.long_fields.next_field.Goals as goal
 
 pub returns : goal.returns
 returns c =

@@ -1,4 +1,4 @@
--- `faults::fields::long_field` meets its contract: so many fields are passed, and the others are still to come.
+-- `faults::long_fields::long_field` meets its contract: so many fields are passed, and the others are still to come.
 use mathlib.Core.Path.{◌≡◌, ap, ◌∙◌}
 use Prim.Native.Nat.{◌-◌}
 use lib.ListN.{length, get_or}
@@ -8,7 +8,7 @@ use Rattle.station.specs.Places.{station_places}
 use Rattle.semicolons.specs.Lines.{line_fields}
 use Rattle.faults.specs.Faults.{long_field}
 use Rattle.faults.proofs.LookLaws.{none_looked, all_looked, long_here, look_on, columns_of, field_here}
-use Rattle.faults.proofs.fields.long_field.Goals as goal
+use Rattle.faults.proofs.long_fields.long_field.Goals as goal
 
 pub loop-k-init : goal.loop-k-init
 loop-k-init c = none_looked station_places c.args.line.now
