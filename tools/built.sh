@@ -4,7 +4,7 @@
 built() { # PACKAGE WHO
     root=$(dirname "$here")
     program=$root/rust/target/release/$1
-    if [ -z "${PROGRAMS_BUILT:-}" ] && ! fresh; then
+    if [ -z "${PROGRAMS_BUILT:-}" ] && ! (fresh); then
         echo "$2: proving the library and building the program; the first time takes minutes" >&2
         (build "$1") >&2 || stop "$2 cannot be built"
     fi
@@ -12,8 +12,7 @@ built() { # PACKAGE WHO
 
 # Whether the program is newer than all that it is made from; a tool's first lines are its help.
 fresh() {
-    [ -x "$program" ] && [ -z "$(find "$root/crates" "$root/crates.txt" "$root/docs/RULES.md" "$root/rust" "$here" \
-        -path "$root/rust/target" -prune -o -newer "$program" -print | head -n 1)" ]
+    cd "$root" && . tools/newer.sh && up_to_date "$program" docs/RULES.md rust tools
 }
 
 build() { # PACKAGE
