@@ -6,7 +6,10 @@ use borrow.Author.Rules.{rules}
 use Rattle.desk.proofs.main.Goals as goal
 
 pub slice_bounds-write_report-end : goal.slice_bounds-write_report-end
-slice_bounds-write_report-end c = sym (length-take-le c.read_input-taken.result.bytes c.read_input-taken.new.input (search rules))
+slice_bounds-write_report-end c = sym (length-take-le c.read_input-taken.result.bytes c.read_input-taken.new.space (search rules))
 
 pub slice_bounds-lines-end : goal.slice_bounds-lines-end
 slice_bounds-lines-end c = within _ _ c.write_report-end.ensures
+
+pub slice_bounds-write_all-end-2 : goal.slice_bounds-write_all-end-2
+slice_bounds-write_all-end-2 c = sym (length-take-le c.write_report-end.result c.write_report-end.new.out (within _ _ c.write_report-end.ensures))

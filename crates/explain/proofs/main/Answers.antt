@@ -6,7 +6,10 @@ use borrow.Author.Rules.{rules}
 use Rattle.explain.proofs.main.Goals as goal
 
 pub slice_bounds-write_explanation-end : goal.slice_bounds-write_explanation-end
-slice_bounds-write_explanation-end c = sym (length-take-le c.read_input-taken.result.bytes c.read_input-taken.new.input (search rules))
+slice_bounds-write_explanation-end c = sym (length-take-le c.read_input-taken.result.bytes c.read_input-taken.new.space (search rules))
 
 pub slice_bounds-lines-end : goal.slice_bounds-lines-end
 slice_bounds-lines-end c = within _ _ c.write_explanation-end.ensures
+
+pub slice_bounds-write_all-end-2 : goal.slice_bounds-write_all-end-2
+slice_bounds-write_all-end-2 c = sym (length-take-le c.write_explanation-end.result c.write_explanation-end.new.out (within _ _ c.write_explanation-end.ensures))
