@@ -8,16 +8,5 @@ ghost use Rattle.alike.specs.Alike.{alike};
 pub fn alike_in_front(a: &[u8], b: &[u8]) -> usize
     ensures { result ≡ alike a.now b.now }
 {
-    let mut i = 0;
-    while i < a.len() {
-        if i == b.len() {
-            return b.len();
-        }
-        let next = i + 1;
-        if a[i] != b[i] {
-            return i;
-        }
-        i = next;
-    }
-    i
+    a.iter().zip(b).take_while(|(x, y)| x == y).count()
 }

@@ -2,8 +2,7 @@
 use mathlib.Core.Path.{◌≡◌, ap, ◌∙◌}
 use mathlib.Core.List.{List}
 use Prim.Native.Nat.{ℕ}
-use Rattle.basics.specs.Outcomes.{refusal, code_with}
-use Rattle.basics.specs.declared.Outcome.{Outcome}
+use Rattle.basics.specs.Outcomes.{refusal, code_with, Outcome}
 use Rattle.answers.specs.Endings.{Answered, AnsweredLeaving}
 
 -- A call that ended so is told so,

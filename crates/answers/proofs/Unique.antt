@@ -1,8 +1,8 @@
 -- What is told in numbers leaves one answer.
+use Rattle.basics.specs.Outcomes.{Outcome}
 use mathlib.Core.Path.{◌≡◌, sym, ◌∙◌}
 use mathlib.Core.List.{List}
 use Prim.Native.Nat.{ℕ}
-use Rattle.basics.specs.declared.Outcome.{Outcome}
 use Rattle.answers.specs.Endings.{Answered, AnsweredLeaving}
 use Rattle.answers.specs.Rules.{RulesNumbered}
 

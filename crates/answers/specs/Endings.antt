@@ -1,7 +1,6 @@
 -- Document 01, "Refusal numbers": how the end of a call is told in numbers.
 use Rattle.std.specs.Prelude.{ℕ, ◌≡◌, List}
-use Rattle.basics.specs.Outcomes.{refusal, code_with}
-use Rattle.basics.specs.declared.Outcome.{Outcome}
+use Rattle.basics.specs.Outcomes.{refusal, code_with, Outcome}
 
 -- How a call ended, as numbers: the answer is the refusal's number, and the lent byte holds the code that comes with it.
 abbrev pub Answered : Outcome → ℕ → ℕ → Type 0

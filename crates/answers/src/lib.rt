@@ -4,11 +4,11 @@
 ghost use Rattle.answers.specs.Endings.{Answered};
 ghost use Rattle.answers.specs.Rules.{RulesNumbered};
 
-use basics::Outcome;
+use basics::Refusal;
 use basics::outcomes::{code_with, refusal_number};
 
 // The code goes into the lent byte, and the refusal's number is the answer.
-pub fn answer(outcome: Outcome, code: &mut u8) -> u8
+pub fn answer(outcome: Result<(), Refusal>, code: &mut u8) -> u8
     ensures { Answered outcome result code.new }
 {
     *code = code_with(outcome);

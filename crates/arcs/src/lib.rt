@@ -5,15 +5,15 @@ ghost use Rattle.std.specs.Prelude.{◌≡◌, false, ◌&&◌, ◌||◌, ◌+�
 ghost use Rattle.numerals.specs.Numbers.{whole_of, whole_filled, amount, with_sign};
 
 use columns::texts::byte;
-use numerals::{Whole, amount_of, read_whole, says_number};
+use numerals::{Unread, amount_of, read_whole, says_number};
 
 // One half of 4C as it stands in its columns.
 #[derive(Clone, Copy)]
 pub struct Arc {
-    pub degrees: Whole,
+    pub degrees: Result<Option<u64>, Unread>,
     pub letter: u8,
-    pub minutes: Whole,
-    pub seconds: Whole,
+    pub minutes: Result<Option<u64>, Unread>,
+    pub seconds: Result<Option<u64>, Unread>,
 }
 
 // One half with d columns of degrees.
@@ -37,7 +37,7 @@ pub fn arc_in(p: &[u8], d: usize) -> Arc
 }
 
 // Whether a whole number was read, and is at most the given one.
-fn is_up_to(most: u64, w: Whole) -> bool
+fn is_up_to(most: u64, w: Result<Option<u64>, Unread>) -> bool
     ensures { result ≡ whole_filled w && leb (amount w) most }
 {
     if says_number(w) {
@@ -52,10 +52,7 @@ fn seconds_in(a: Arc) -> u64
     requires { 3600 * amount a.degrees + 60 * amount a.minutes + amount a.seconds < 10 ^ 6 }
     ensures { result ≡ 3600 * amount a.degrees + 60 * amount a.minutes + amount a.seconds }
 {
-    let degrees = a.degrees;
-    let minutes = a.minutes;
-    let seconds = a.seconds;
-    3600 * amount_of(degrees) + 60 * amount_of(minutes) + amount_of(seconds)
+    3600 * amount_of(a.degrees) + 60 * amount_of(a.minutes) + amount_of(a.seconds)
 }
 
 // Whether a byte is one of two letters.
@@ -74,19 +71,16 @@ pub fn is_arc(a: Arc, plus: u8, minus: u8, degrees: u64) -> bool
         && (whole_filled a.seconds && leb (amount a.seconds) 59)
         && leb (3600 * amount a.degrees + 60 * amount a.minutes + amount a.seconds) (3600 * degrees) }
 {
-    let whole = a.degrees;
-    if !is_up_to(degrees, whole) {
+    if !is_up_to(degrees, a.degrees) {
         return false;
     }
     if !is_hemisphere(plus, minus, a.letter) {
         return false;
     }
-    let minutes = a.minutes;
-    if !is_up_to(59, minutes) {
+    if !is_up_to(59, a.minutes) {
         return false;
     }
-    let seconds = a.seconds;
-    if !is_up_to(59, seconds) {
+    if !is_up_to(59, a.seconds) {
         return false;
     }
     seconds_in(a) <= 3600 * degrees
@@ -99,19 +93,16 @@ pub fn reads_arc(a: Arc, plus: u8, minus: u8) -> bool
         && whole_filled a.minutes
         && whole_filled a.seconds }
 {
-    let degrees = a.degrees;
-    if !says_number(degrees) {
+    if !says_number(a.degrees) {
         return false;
     }
     if !is_hemisphere(plus, minus, a.letter) {
         return false;
     }
-    let minutes = a.minutes;
-    if !says_number(minutes) {
+    if !says_number(a.minutes) {
         return false;
     }
-    let seconds = a.seconds;
-    says_number(seconds)
+    says_number(a.seconds)
 }
 
 // v, or -v.

@@ -1,4 +1,5 @@
 -- How a call on a record ends: refused for the record's length, refused for a broken rule, or done.
+use Rattle.std.specs.Prelude.{Ok, Err}
 use mathlib.Core.Path.{◌≡◌, refl, sym, ap, ◌∙◌}
 use mathlib.Core.Bool.{Bool, true, false, not, cond}
 use mathlib.Core.List.{List, [], ◌∷◌}
@@ -7,9 +8,8 @@ use lib.Dec.{eqb}
 use lib.ListN.{length}
 use borrow.Author.Tests.{eq-eqb, ne_eqb, eqb-true, not-false}
 use Rattle.basics.specs.Fields.{record_length}
-use Rattle.basics.specs.Outcomes.{refusal, if_done, when, first_refusal, rule_test, judged}
-use Rattle.basics.specs.declared.Outcome.{Outcome}
-use Rattle.basics.specs.declared.Outcome.TheVariants as outcome
+use Rattle.basics.specs.Outcomes.{refusal, if_done, when, first_refusal, rule_test, judged, Outcome}
+use Rattle.basics.specs.declared.Refusal.TheVariants as why
 use Rattle.basics.proofs.RefusalLaws.{done, passes, stops, none_applies}
 
 -- How it ends on s, whose code is k, where `short` refuses another length.
@@ -50,11 +50,11 @@ module _ {A : Type 0} (s : List ℕ) (k : ℕ) (short : Outcome) (x y : A) {v : 
 
   module _ (l : length s ≡ record_length) {a : ℕ} (d : a ≡ k) where
     -- and so is a broken rule,
-    pub rule_broken : (a ≡ 0 → ⊥) → v ≡ y → CallEnded s k short x y (outcome.RuleBroken a) v
+    pub rule_broken : (a ≡ 0 → ⊥) → v ≡ y → CallEnded s k short x y (Err (why.RuleBroken a)) v
     unfolding if_done first_refusal refusal
     rule_broken n e = rw (eq-eqb (length s) record_length l, ← d, ne_eqb a 0 n) (refl, e)
 
     -- and where none is broken the call is done.
-    pub call-done : a ≡ 0 → v ≡ x → CallEnded s k short x y outcome.Done v
+    pub call-done : a ≡ 0 → v ≡ x → CallEnded s k short x y (Ok tt) v
     unfolding if_done first_refusal refusal
     call-done z e = rw (eq-eqb (length s) record_length l, ← d, eq-eqb a 0 z) (refl, e)

@@ -1,46 +1,100 @@
 -- Tests asked in their order: one that does not apply is passed over, and the first that applies ends the call.
+use Rattle.std.specs.Prelude.{Result, Ok, Err, is_ok, is_err}
 use mathlib.Core.Path.{◌≡◌, refl, sym, ap, ◌∙◌}
 use mathlib.Core.Bool.{Bool, true, false, not, cond, ◌&&◌, false≢true}
 use mathlib.Core.List.{List, [], ◌∷◌, ◌++◌}
 use Prim.Native.Nat.{ℕ}
 use lib.Dec.{eqb}
 use borrow.Author.Tests.{eqb-true, not-true, not-false}
-use Rattle.basics.specs.Outcomes.{refusal, code_with, if_done, Test, when, first_refusal, judged}
-use Rattle.basics.specs.declared.Outcome.{Outcome}
-use Rattle.basics.specs.declared.Outcome.TheVariants as outcome
+use Rattle.std.specs.Result.{IsErrAnd, result_unwrap_or}
+use Rattle.std.proofs.lemmas.Result.{err_from_is_err_and}
+use Rattle.basics.specs.Outcomes.{ends, number, refusal, code_with, if_done, Test, when, first_refusal, judged, Outcome}
+use Rattle.basics.specs.declared.Refusal.{Refusal}
+use Rattle.basics.specs.declared.Refusal.TheVariants as why
 
 -- A call is done where no number refuses it,
 abbrev pub done : Outcome → Bool
 done o = eqb (refusal o) 0
 
--- and so is its outcome.
-pub done_is : (o : Outcome) → done o ≡ true → o ≡ outcome.Done
-unfolding refusal
-done_is outcome.Done e = refl
-done_is outcome.FileTooLong e = absurd (false≢true e)
-done_is outcome.FileNotRecords e = absurd (false≢true e)
-done_is outcome.SheetLength e = absurd (false≢true e)
-done_is outcome.SheetTrailer e = absurd (false≢true e)
-done_is outcome.NoSuchRecord e = absurd (false≢true e)
-done_is outcome.RecordLength e = absurd (false≢true e)
-done_is outcome.BufferLength e = absurd (false≢true e)
-done_is outcome.NoSuchField e = absurd (false≢true e)
-done_is outcome.NotALine e = absurd (false≢true e)
-done_is outcome.FieldTooLong e = absurd (false≢true e)
-done_is outcome.BufferTooShort e = absurd (false≢true e)
-done_is outcome.NotTwelveDigits e = absurd (false≢true e)
-done_is outcome.LastDigitWrong e = absurd (false≢true e)
-done_is outcome.NotMobileDefaults e = absurd (false≢true e)
-done_is outcome.TooFewRows e = absurd (false≢true e)
-done_is (outcome.RuleBroken c) e = absurd (false≢true e)
+-- and no refusal has the number 0:
+numbered : (r : Refusal) → eqb (number r) 0 ≡ false
+numbered why.FileTooLong = refl
+numbered why.FileNotRecords = refl
+numbered why.SheetLength = refl
+numbered why.SheetTrailer = refl
+numbered why.NoSuchRecord = refl
+numbered why.RecordLength = refl
+numbered why.BufferLength = refl
+numbered why.NoSuchField = refl
+numbered why.NotALine = refl
+numbered why.FieldTooLong = refl
+numbered why.BufferTooShort = refl
+numbered why.NotTwelveDigits = refl
+numbered why.LastDigitWrong = refl
+numbered why.NotMobileDefaults = refl
+numbered why.TooFewRows = refl
+numbered (why.RuleBroken c) = refl
 
--- Where a caller asked whether an outcome is done and went on, it was;
-pub went_on : {o o' : Outcome} {d : Bool} → o ≡ o' → d ≡ done o → not d ≡ false → done o' ≡ true
-went_on {o} {o'} {d} e a n = ap (λ (x : Outcome). done x) (sym e) ∙ sym a ∙ not-false d n
+-- so a call is done exactly where it answers Ok,
+pub ok-done : (o : Outcome) → is_ok o ≡ done o
+unfolding refusal
+ok-done (Ok tt) = refl
+ok-done (Err r) = sym (numbered r)
+
+-- whatever it answers with,
+pub ok-ends : {A : Type 0} (a : Result A Refusal) → is_ok a ≡ done (ends a)
+unfolding refusal
+ok-ends (Ok x) = refl
+ok-ends (Err r) = sym (numbered r)
+
+-- and then its outcome is the one that is done.
+pub done_is : (o : Outcome) → done o ≡ true → o ≡ Ok tt
+unfolding refusal
+done_is (Ok tt) e = refl
+done_is (Err r) e = absurd (false≢true (sym (numbered r) ∙ e))
+
+-- Where a caller asked whether an outcome is an error and went on, the call was done;
+pub went_on : {o o' : Outcome} {d : Bool} → o ≡ o' → d ≡ is_err o → d ≡ false → done o' ≡ true
+went_on {o} {o'} {d} e a n = ap (λ (x : Outcome). done x) (sym e) ∙ sym (ok-done o) ∙ by o (sym a ∙ n)
+  where
+    by : (x : Outcome) → is_err x ≡ false → is_ok x ≡ true
+    by (Ok tt) f = refl
+    by (Err r) f = absurd (false≢true (sym f))
 
 -- where it stopped, it was not.
-pub stopped : {o o' : Outcome} {d : Bool} → o ≡ o' → d ≡ done o → not d ≡ true → done o' ≡ false
-stopped {o} {o'} {d} e a n = ap (λ (x : Outcome). done x) (sym e) ∙ sym a ∙ not-true d n
+pub stopped : {o o' : Outcome} {d : Bool} → o ≡ o' → d ≡ is_err o → d ≡ true → done o' ≡ false
+stopped {o} {o'} {d} e a n = ap (λ (x : Outcome). done x) (sym e) ∙ sym (ok-done o) ∙ by o (sym a ∙ n)
+  where
+    by : (x : Outcome) → is_err x ≡ true → is_ok x ≡ false
+    by (Ok tt) f = absurd (false≢true f)
+    by (Err r) f = refl
+
+-- Where a caller passes on the error of an outcome, it answers that outcome,
+pub passed_on : {o result : Outcome} {r : Refusal} → IsErrAnd result (λ e. e ≡ r) → Err r ≡ o → result ≡ o
+passed_on {o} {result} {r} h e = let p = err_from_is_err_and result h in p.1 ∙ ap (λ (x : Refusal). Err x) p.2 ∙ e
+
+-- or how that call ends, where it answers with a value,
+pub ended_on : {A : Type 0} {o : Outcome} {r : Refusal} (result : Result A Refusal) → IsErrAnd result (λ e. e ≡ r) → Err r ≡ o → ends result ≡ o
+ended_on {A} {o} {r} result h e = let p = err_from_is_err_and result h in ap (λ (x : Result A Refusal). ends x) p.1 ∙ ap (λ (x : Refusal). Err x) p.2 ∙ e
+
+-- and it has no value;
+pub no_value : {A : Type 0} (none : A) (result : Result A Refusal) → is_err result ≡ true → result_unwrap_or result none ≡ none
+no_value none (Ok x) e = absurd (false≢true e)
+no_value none (Err r) e = refl
+
+-- and the call was not done;
+pub error_told : {o : Outcome} {r : Refusal} → Err r ≡ o → done o ≡ false
+unfolding refusal
+error_told {o} {r} e = ap done (sym e) ∙ numbered r
+
+-- nor is the caller's;
+pub error_done : (result : Outcome) {o : Outcome} {r : Refusal} → IsErrAnd result (λ e. e ≡ r) → Err r ≡ o → done result ≡ false
+error_done result {o} {r} h e = ap done (passed_on {o = o} {result = result} {r = r} h e) ∙ error_told {o = o} {r = r} e
+
+-- where there was none it was.
+pub none_told : {o : Outcome} {u : Unit {0}} → Ok u ≡ o → done o ≡ true
+unfolding refusal
+none_told e = ap done (sym e)
 
 -- What is left where a call is done, and where it is not.
 pub if_done_lem : {A : Type 0} (o : Outcome) (x y : A) → done o ≡ true → if_done o x y ≡ x
@@ -72,7 +126,7 @@ module _ {b : Bool} (o : Outcome) (ts : List Test) where
   stops e = rw e
 
 -- No test is left: the call is done.
-pub none_left : first_refusal [] ≡ outcome.Done
+pub none_left : first_refusal [] ≡ Ok tt
 unfolding first_refusal
 none_left = refl
 
@@ -126,6 +180,18 @@ pub judged-code : (c : ℕ) → code_with (judged c) ≡ c
 unfolding judged first_refusal code_with
 judged-code c = by (eqb c 0) refl
   where
-    by : (b : Bool) → eqb c 0 ≡ b → code_with (cond (not b) (outcome.RuleBroken c) outcome.Done) ≡ c
+    by : (b : Bool) → eqb c 0 ≡ b → code_with (cond (not b) (Err (why.RuleBroken c)) (Ok tt)) ≡ c
     by true e = sym (eqb-true c 0 e)
     by false e = refl
+
+-- Two answers that end alike, and have one value where one that stands for none is put in, are equal.
+pub one_answer : {A : Type 0} (none : A) (a b : Result A Refusal) → ends a ≡ ends b → result_unwrap_or a none ≡ result_unwrap_or b none → a ≡ b
+unfolding refusal
+one_answer none (Ok x) (Ok y) p q = ap (λ v. Ok v) q
+one_answer {A} none (Err r) (Err s) p q = ap filled p
+  where
+    filled : Outcome → Result A Refusal
+    filled (Ok u) = Ok none
+    filled (Err w) = Err w
+one_answer none (Ok x) (Err s) p q = absurd (false≢true (sym (ap (λ (o : Outcome). done o) p ∙ numbered s)))
+one_answer none (Err r) (Ok y) p q = absurd (false≢true (sym (numbered r) ∙ ap (λ (o : Outcome). done o) p))

@@ -1,5 +1,5 @@
 -- Document 01, "Station rules, by code": rules are one list in the order of their codes, and the first broken code is reported.
-use Rattle.std.specs.Prelude.{ℕ, zero, suc, ◌≡◌, Bool, true, cond, List, [], ◌∷◌}
+use Rattle.std.specs.Prelude.{ℕ, suc, ◌≡◌, Bool, true, cond, List, [], ◌∷◌}
 
 -- The code of the first rule that is broken, counted from k on; 0 means none.
 unfoldable pub first_broken : ℕ → List Bool → ℕ

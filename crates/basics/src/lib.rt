@@ -12,10 +12,9 @@ pub struct Place {
     pub length: usize,
 }
 
-// A call is done, or refused for the lowest reason that applies to it.
+// Why a call is refused: the lowest reason that applies to it.
 #[derive(Clone, Copy)]
-pub enum Outcome {
-    Done,
+pub enum Refusal {
     FileTooLong,
     FileNotRecords,
     SheetLength,

@@ -1,60 +1,88 @@
-// Outcomes and their numbers: the refusal, and the code that comes with it.
+// How calls end, and the paper's numbers for it: the refusal, and the code that comes with it.
 ghost use Rattle.std.specs.Prelude.{◌≡◌, eqb};
-ghost use Rattle.basics.specs.Outcomes.{refusal, code_with, judged};
+ghost use Rattle.basics.specs.Outcomes.{ends, number, code_of, refusal, code_with, judged};
 
-use crate::Outcome;
+use crate::Refusal;
 
 // Done where the code is 0, else 9 and the code.
-pub fn judged(code: u8) -> Outcome
+pub fn judged(code: u8) -> Result<(), Refusal>
     ensures { result ≡ judged code }
 {
     if code == 0 {
-        return Outcome::Done;
+        return Ok(());
     }
-    Outcome::RuleBroken(code)
+    Err(Refusal::RuleBroken(code))
+}
+
+// The paper's number of a refusal.
+impl From<Refusal> for u8 {
+    ghost from_gives = { λ refusal n. n ≡ number refusal };
+
+    fn from(refusal: Refusal) -> u8 {
+        match refusal {
+            Refusal::FileTooLong => 1,
+            Refusal::FileNotRecords => 2,
+            Refusal::SheetLength => 3,
+            Refusal::SheetTrailer => 4,
+            Refusal::NoSuchRecord => 5,
+            Refusal::RecordLength => 6,
+            Refusal::BufferLength => 7,
+            Refusal::NoSuchField => 8,
+            Refusal::NotALine => 10,
+            Refusal::FieldTooLong => 11,
+            Refusal::BufferTooShort => 12,
+            Refusal::NotTwelveDigits => 14,
+            Refusal::LastDigitWrong => 15,
+            Refusal::NotMobileDefaults => 16,
+            Refusal::TooFewRows => 17,
+            Refusal::RuleBroken(_) => 9,
+        }
+    }
 }
 
 // The refusal's number; 0 where the call is done.
-pub fn refusal_number(outcome: Outcome) -> u8
+pub fn refusal_number(outcome: Result<(), Refusal>) -> u8
     ensures { result ≡ refusal outcome }
 {
     match outcome {
-        Outcome::Done => 0,
-        Outcome::FileTooLong => 1,
-        Outcome::FileNotRecords => 2,
-        Outcome::SheetLength => 3,
-        Outcome::SheetTrailer => 4,
-        Outcome::NoSuchRecord => 5,
-        Outcome::RecordLength => 6,
-        Outcome::BufferLength => 7,
-        Outcome::NoSuchField => 8,
-        Outcome::NotALine => 10,
-        Outcome::FieldTooLong => 11,
-        Outcome::BufferTooShort => 12,
-        Outcome::NotTwelveDigits => 14,
-        Outcome::LastDigitWrong => 15,
-        Outcome::NotMobileDefaults => 16,
-        Outcome::TooFewRows => 17,
-        Outcome::RuleBroken(_) => 9,
+        Ok(()) => 0,
+        Err(refusal) => u8::from(refusal),
     }
 }
 
-// The code that comes with an outcome; with any but 9 it is 0.
-pub fn code_with(outcome: Outcome) -> u8
-    ensures { result ≡ code_with outcome }
+// How a call ends, without the value that it answers with where it is done.
+pub fn ended<T: Drop>(answer: Result<T, Refusal>) -> Result<(), Refusal>
+    ensures { result ≡ ends answer }
 {
-    match outcome {
-        Outcome::RuleBroken(code) => code,
+    match answer {
+        Ok(_) => Ok(()),
+        Err(refusal) => Err(refusal),
+    }
+}
+
+// The code that comes with a refusal; with any but 9 it is 0.
+fn code_of(refusal: Refusal) -> u8
+    ensures { result ≡ code_of refusal }
+{
+    match refusal {
+        Refusal::RuleBroken(code) => code,
         _ => 0,
     }
 }
 
-// Nothing was refused.
-pub fn is_done(outcome: Outcome) -> bool
-    ensures { result ≡ eqb (refusal outcome) 0 }
+// The code that comes with an outcome; where the call is done it is 0.
+pub fn code_with(outcome: Result<(), Refusal>) -> u8
+    ensures { result ≡ code_with outcome }
 {
     match outcome {
-        Outcome::Done => true,
-        _ => false,
+        Ok(_) => 0,
+        Err(refusal) => code_of(refusal),
     }
+}
+
+// Nothing was refused. In the house it is `is_ok`; callers who know outcomes by their numbers have it by its old name and promise.
+pub fn is_done(outcome: Result<(), Refusal>) -> bool
+    ensures { result ≡ eqb (refusal outcome) 0 }
+{
+    outcome.is_ok()
 }

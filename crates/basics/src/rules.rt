@@ -7,12 +7,10 @@ fn broken_from(rules: &[bool], first: u8) -> u8
     requires { first + length rules.now ≤ 256 }
     ensures { result ≡ first_broken first rules.now }
 {
-    let mut i: usize = 0;
-    while i < rules.len() {
-        if !rules[i] {
+    for (i, holds) in rules.iter().enumerate() {
+        if !*holds {
             return first + i as u8;
         }
-        i += 1;
     }
     0
 }

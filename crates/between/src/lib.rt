@@ -10,9 +10,6 @@ ghost use Rattle.formats.specs.Tenths.{has_tenths};
 ghost use Rattle.station_groups.specs.Asked.{never, round_antenna};
 
 use columns::texts::{equal, trimmed_length};
-use distances::Height;
-use formats::Tenths;
-use frequencies::Frequency;
 use station_groups::{Antenna, Channel, Coordination, Emission, Site};
 
 // The two never stand together.
@@ -20,36 +17,6 @@ pub fn never_both(x: bool, y: bool) -> bool
     ensures { result ≡ never x y }
 {
     if x { !y } else { true }
-}
-
-// 1A or 1Y is filled.
-fn has_frequency(v: Frequency) -> bool
-    ensures { result ≡ has_frequency v }
-{
-    match v {
-        Frequency::Blank => false,
-        Frequency::Filled(_, _) => true,
-    }
-}
-
-// 8B1, 9A, 9B or 9G is filled.
-fn has_tenths(v: Tenths) -> bool
-    ensures { result ≡ has_tenths v }
-{
-    match v {
-        Tenths::Blank => false,
-        Tenths::Filled(_) => true,
-    }
-}
-
-// 4Z is filled.
-fn has_height(v: Height) -> bool
-    ensures { result ≡ has_height v }
-{
-    match v {
-        Height::Blank => false,
-        Height::Filled(_) => true,
-    }
 }
 
 // 4A, trailing spaces off, ends in _R.
@@ -82,76 +49,61 @@ fn is_mobile(s: Channel) -> bool
 pub fn is_heard_or_sent(channel: Channel, coordination: Coordination) -> bool
     ensures { result ≡ never (not (has_frequency channel.transmit)) (not (has_frequency coordination.receive)) }
 {
-    let transmit = channel.transmit;
-    let receive = coordination.receive;
-    never_both(!has_frequency(transmit), !has_frequency(receive))
+    never_both(channel.transmit.is_none(), coordination.receive.is_none())
 }
 
 // Rule 32: where 1A is blank, 8B1 is.
 pub fn is_powered_to_send(channel: Channel, emission: Emission) -> bool
     ensures { result ≡ never (not (has_frequency channel.transmit)) (has_tenths emission.power) }
 {
-    let transmit = channel.transmit;
-    let power = emission.power;
-    never_both(!has_frequency(transmit), has_tenths(power))
+    never_both(channel.transmit.is_none(), emission.power.is_some())
 }
 
 // Rule 33: where 6A does not begin with M, 4D is 0.
 pub fn is_fixed_at_a_point(channel: Channel, site: Site) -> bool
     ensures { result ≡ never (not (is "M" (head channel.class))) (not (eqb site.radius.0 0)) }
 {
-    let radius = site.radius;
-    never_both(!is_mobile(channel), radius.0 != 0)
+    never_both(!is_mobile(channel), site.radius.0 != 0)
 }
 
 // Rule 34: where 6A begins with M, 9A is blank.
 pub fn is_mobile_undirected(channel: Channel, emission: Emission) -> bool
     ensures { result ≡ never (is "M" (head channel.class)) (has_tenths emission.azimuth) }
 {
-    let azimuth = emission.azimuth;
-    never_both(is_mobile(channel), has_tenths(azimuth))
+    never_both(is_mobile(channel), emission.azimuth.is_some())
 }
 
 // Rule 35: where 9A is blank, 9XH is of no direction.
 pub fn is_round_across(emission: Emission, antenna: Antenna) -> bool
     ensures { result ≡ never (not (has_tenths emission.azimuth)) (not (round_antenna antenna.horizontal)) }
 {
-    let azimuth = emission.azimuth;
-    let horizontal = antenna.horizontal;
-    never_both(!has_tenths(azimuth), !is_round(&horizontal))
+    never_both(emission.azimuth.is_none(), !is_round(&antenna.horizontal))
 }
 
 // Rule 36: where 9B is blank, 9XV is of no direction.
 pub fn is_round_upright(emission: Emission, antenna: Antenna) -> bool
     ensures { result ≡ never (not (has_tenths emission.elevation)) (not (round_antenna antenna.vertical)) }
 {
-    let elevation = emission.elevation;
-    let vertical = antenna.vertical;
-    never_both(!has_tenths(elevation), !is_round(&vertical))
+    never_both(emission.elevation.is_none(), !is_round(&antenna.vertical))
 }
 
 // Rule 37: where 6A begins with M, 4Z is blank.
 pub fn is_mobile_at_no_height(channel: Channel, site: Site) -> bool
     ensures { result ≡ never (is "M" (head channel.class)) (has_height site.height) }
 {
-    let height = site.height;
-    never_both(is_mobile(channel), has_height(height))
+    never_both(is_mobile(channel), site.height.is_some())
 }
 
 // Rule 38: where 1Y is filled, 9G is.
 pub fn is_heard_with_gain(coordination: Coordination, antenna: Antenna) -> bool
     ensures { result ≡ never (has_frequency coordination.receive) (not (has_tenths antenna.gain)) }
 {
-    let receive = coordination.receive;
-    let gain = antenna.gain;
-    never_both(has_frequency(receive), !has_tenths(gain))
+    never_both(coordination.receive.is_some(), antenna.gain.is_none())
 }
 
 // Rule 39: where 6A is FL, 4A ends in _R.
 pub fn is_repeater_by_name(channel: Channel, site: Site) -> bool
     ensures { result ≡ never (same (bytes "FL") channel.class) (not (ends_in "_R" (trimmed site.name))) }
 {
-    let class = channel.class;
-    let name = site.name;
-    never_both(equal(b"FL", &class), !is_repeater_name(&name))
+    never_both(equal(b"FL", &channel.class), !is_repeater_name(&site.name))
 }

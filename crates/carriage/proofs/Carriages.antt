@@ -1,4 +1,5 @@
 -- What holds of every station that is handed out: it is accepted once it is written, it is an ML station, and its name gives its number back.
+use Rattle.std.specs.Prelude.{Ok}
 use mathlib.Core.Path.{◌≡◌, refl, sym, ap, ◌∙◌}
 use mathlib.Core.Bool.{Bool, true, false, not}
 use mathlib.Core.List.{List, [], ◌∷◌, ◌++◌}
@@ -6,11 +7,9 @@ use Prim.Native.Nat.{ℕ}
 use lib.Dec.{eqb}
 use borrow.Author.Tests.{eqb-true, not-false}
 use Rattle.frequencies.specs.declared.Frequency.{Frequency}
-use Rattle.formats.specs.declared.Tenths.{Tenths}
 use Rattle.columns.specs.Texts.{bytes, same}
 use Rattle.columns.proofs.TextLaws.{and_split}
 use Rattle.basics.specs.Outcomes.{refusal, first_refusal}
-use Rattle.basics.specs.declared.Outcome.TheVariants as outcome
 use Rattle.basics.proofs.RefusalLaws.{done, if_done_lem, NoneApplies, none_applies}
 use Rattle.station.specs.Values.{empty_station}
 use Rattle.station.specs.Codes.{value_of, station_code, typed_code}
@@ -20,8 +19,9 @@ use Rattle.station.proofs.RoundTrip.{write_keeps, read_back}
 use Rattle.vehicles.specs.Names.{name_of, number_in}
 use Rattle.vehicles.proofs.NameLaws.{number_back}
 use Rattle.carriage.specs.Building.{are_defaults, carriage_of, build_tests, build_outcome, built_station}
+use Rattle.std.specs.Prelude.{Option, ℤ}
 
-module _ (number : List ℕ) (transmit : Frequency) (power : Tenths) (reference : List ℕ) (s : Station) (e : build_outcome number transmit power reference s ≡ outcome.Done) where
+module _ (number : List ℕ) (transmit : Option Frequency) (power : Option ℤ) (reference : List ℕ) (s : Station) (e : build_outcome number transmit power reference s ≡ Ok tt) where
   abbrev handed : Station
   handed = built_station number transmit power reference s
 

@@ -5,7 +5,7 @@ ghost use Rattle.std.specs.Prelude.{◌≡◌, length};
 ghost use Rattle.vehicles.specs.Digits.{number_digits};
 ghost use Rattle.carriage.specs.Building.{carriage_of};
 
-use basics::Outcome;
+use basics::Refusal;
 use formats::Tenths;
 use frequencies::Frequency;
 use station::Station;
@@ -15,14 +15,14 @@ use vehicle_names::name_of;
 // How building ended, and the station: the carriage's, or on a refusal the empty one.
 #[derive(Clone, Copy)]
 pub struct Built {
-    pub outcome: Outcome,
+    pub outcome: Result<(), Refusal>,
     pub station: Station,
 }
 
 // The defaults with a carriage's name, and with its own frequency, power and reference.
 pub fn carriage_of(
     number: &[u8],
-    transmit: Frequency,
+    transmit: Option<Frequency>,
     power: Tenths,
     reference: [u8; 15],
     defaults: Station,

@@ -6,8 +6,7 @@ ghost use Rattle.station.specs.Values.{empty_station};
 ghost use Rattle.carriage.specs.Building.{are_defaults};
 ghost use Rattle.carriage.specs.Promises.{CarriageBuilt};
 
-use basics::Outcome;
-use basics::outcomes::is_done;
+use basics::Refusal;
 use carriage::{Built, carriage_of};
 use columns::texts::equal;
 use empties::empty_station;
@@ -24,13 +23,12 @@ fn are_defaults(s: Station) -> bool
     if typed_code(s) != 0 {
         return false;
     }
-    let channel = s.channel;
-    let class = channel.class;
+    let class = s.channel.class;
     equal(b"ML", &class)
 }
 
 // A refusal, with the empty station.
-fn refused(outcome: Outcome) -> Built
+fn refused(outcome: Result<(), Refusal>) -> Built
     ensures { (result.outcome ≡ outcome) × (result.station ≡ empty_station) }
 {
     Built {
@@ -42,7 +40,7 @@ fn refused(outcome: Outcome) -> Built
 // Builds the station of a carriage: 14 and 15 by its number, 16 by the defaults, then 9 by the station that they make.
 pub fn build(
     number: &[u8],
-    transmit: Frequency,
+    transmit: Option<Frequency>,
     power: Tenths,
     reference: [u8; 15],
     defaults: Station,
@@ -50,19 +48,19 @@ pub fn build(
     ensures { CarriageBuilt number.now transmit power reference defaults result }
 {
     let checked = check_number(number);
-    if !is_done(checked) {
+    if checked.is_err() {
         return refused(checked);
     }
     if !are_defaults(defaults) {
-        return refused(Outcome::NotMobileDefaults);
+        return refused(Err(Refusal::NotMobileDefaults));
     }
     let station = carriage_of(number, transmit, power, reference, defaults);
     let code = typed_code(station);
     if code != 0 {
-        return refused(Outcome::RuleBroken(code));
+        return refused(Err(Refusal::RuleBroken(code)));
     }
     Built {
-        outcome: Outcome::Done,
+        outcome: Ok(()),
         station,
     }
 }

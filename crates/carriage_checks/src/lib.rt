@@ -6,8 +6,7 @@ ghost use Rattle.basics.specs.Outcomes.{first_refusal};
 ghost use Rattle.carriage_lines.specs.Lines.{is_mobile};
 ghost use Rattle.carriage_lines.specs.Calls.{given_tests};
 
-use basics::Outcome;
-use basics::outcomes::is_done;
+use basics::Refusal;
 use carriage_lines::{field_after, fields_fit};
 use columns::texts::equal;
 use judging::check_station;
@@ -19,31 +18,28 @@ fn is_mobile(rec: &[u8]) -> bool
     requires { length rec.now ≡ 219 }
     ensures { result ≡ is_mobile rec.now }
 {
-    if !is_done(check_station(rec)) {
+    if check_station(rec).is_err() {
         return false;
     }
     equal(b"ML", &rec[13..15])
 }
 
 // What is refused before a record is made: 6 and 16 by the defaults, 10, 11, 14 and 15 by the line.
-pub fn check_given(line: &[u8], defaults: &[u8]) -> Outcome
+pub fn check_given(line: &[u8], defaults: &[u8]) -> Result<(), Refusal>
     ensures { result ≡ first_refusal (given_tests line.now defaults.now) }
 {
     if defaults.len() != 219 {
-        return Outcome::RecordLength;
+        return Err(Refusal::RecordLength);
     }
     if !is_marked(line, 4) {
-        return Outcome::NotALine;
+        return Err(Refusal::NotALine);
     }
     if !fields_fit(line) {
-        return Outcome::FieldTooLong;
+        return Err(Refusal::FieldTooLong);
     }
-    let checked = check_number(field_after(line, 0));
-    if !is_done(checked) {
-        return checked;
-    }
+    check_number(field_after(line, 0))?;
     if !is_mobile(defaults) {
-        return Outcome::NotMobileDefaults;
+        return Err(Refusal::NotMobileDefaults);
     }
-    Outcome::Done
+    Ok(())
 }

@@ -1,4 +1,5 @@
 -- A carriage's line that is filed is the station that building gives on the values of its fields.
+use Rattle.std.specs.Prelude.{Ok}
 use mathlib.Core.Path.{◌≡◌, refl, sym, ap, ◌∙◌}
 use mathlib.Core.Bool.{Bool, true, false, not, ◌&&◌}
 use mathlib.Core.List.{List, [], ◌∷◌, ◌++◌}
@@ -8,13 +9,11 @@ use lib.Dec.{eqb}
 use lib.ListN.{length, get_or, take, drop, length-append}
 use borrow.Author.Tests.{eq-eqb, eqb-true, not-false}
 use Rattle.frequencies.specs.declared.Frequency.{Frequency}
-use Rattle.formats.specs.declared.Tenths.{Tenths}
 use Rattle.columns.specs.Texts.{bytes, same}
 use Rattle.columns.proofs.TextLaws.{and_split}
 use Rattle.basics.specs.Fields.{record_length, at, cut, joined}
 use Rattle.basics.proofs.FieldLaws.{Wide, cut-joined, cut_wide}
 use Rattle.basics.specs.Outcomes.{refusal, if_done, first_refusal}
-use Rattle.basics.specs.declared.Outcome.TheVariants as outcome
 use Rattle.basics.proofs.RefusalLaws.{done, if_done_lem, NoneApplies, none_applies}
 use Rattle.station.specs.Places.{station_places, station_tiles, fields_of}
 use Rattle.station.specs.Values.{empty_station, station_of}
@@ -32,13 +31,14 @@ use Rattle.carriage.specs.Building.{are_defaults, carriage_of, build_tests, buil
 use Rattle.carriage_lines.specs.Lines.{field_behind, carriage_number, own_fields, own_places, with_field, carriage_pieces, carriage_record, is_mobile, own_pieces}
 use Rattle.carriage_lines.specs.Calls.{given_tests, filing_tests, carriage_filing, filed_carriage}
 use Rattle.carriage_lines.proofs.PutLaws.{own_room, name_wide}
+use Rattle.std.specs.Prelude.{Option, ℤ}
 
 -- What the carriage's own fields say: the values that their record has.
 module _ (t d : List ℕ) where
-  abbrev pub transmit_of : Frequency
+  abbrev pub transmit_of : Option Frequency
   transmit_of = (station_of (carriage_pieces t d)).channel.transmit
 
-  abbrev pub power_of : Tenths
+  abbrev pub power_of : Option ℤ
   power_of = (station_of (carriage_pieces t d)).emission.power
 
   abbrev pub reference_of : List ℕ
@@ -96,7 +96,7 @@ module _ (t d : List ℕ) (n : length d ≡ record_length) (f : none_longer own_
   made_length = joined_wide station_places (carriage_pieces t d) wide
 
 -- A line that is not refused,
-module _ (t d out : List ℕ) (e : carriage_filing t d out ≡ outcome.Done) where
+module _ (t d out : List ℕ) (e : carriage_filing t d out ≡ Ok tt) where
   passed : NoneApplies (filing_tests t d out)
   unfolding carriage_filing refusal
   passed = none_applies (filing_tests t d out) refl (ap done e)
@@ -122,7 +122,7 @@ module _ (t d out : List ℕ) (e : carriage_filing t d out ≡ outcome.Done) whe
   own_fits = ap typed_code (sym value) ∙ read_fits (carriage_record t d) (made_length t d given (not-false _ passed.1.1.1.0) (number-length (carriage_number t) (not-false _ passed.1.1.1.1.0))) (eqb-true (station_code (carriage_record t d)) 0 (not-false _ passed.1.1.1.1.1.1.1.0))
 
   -- builds, from its number, the values of its fields and the defaults' station,
-  pub filed_builds : build_outcome (carriage_number t) (transmit_of t d) (power_of t d) (reference_of t d) (value_of d) ≡ outcome.Done
+  pub filed_builds : build_outcome (carriage_number t) (transmit_of t d) (power_of t d) (reference_of t d) (value_of d) ≡ Ok tt
   unfolding build_outcome first_refusal
   filed_builds =
       let digits : is_number (carriage_number t) ≡ true = not-false _ passed.1.1.1.1.0 in

@@ -1,4 +1,5 @@
 -- How filing a carriage's line ends, and what it leaves.
+use Rattle.std.specs.Prelude.{Err}
 use mathlib.Core.Path.{◌≡◌, refl, sym, ap, ◌∙◌}
 use mathlib.Core.Bool.{true, false, not, cond}
 use mathlib.Core.List.{List, [], ◌∷◌, ◌++◌}
@@ -8,9 +9,8 @@ use lib.Dec.{eqb}
 use borrow.Author.Tests.{eq-eqb, ne_eqb, eqb-true}
 use Rattle.columns.specs.Texts.{sized}
 use Rattle.basics.specs.Fields.{record_length}
-use Rattle.basics.specs.Outcomes.{refusal, if_done, Test, first_refusal, rule_test, judged}
-use Rattle.basics.specs.declared.Outcome.{Outcome}
-use Rattle.basics.specs.declared.Outcome.TheVariants as outcome
+use Rattle.basics.specs.Outcomes.{refusal, if_done, Test, first_refusal, rule_test, judged, Outcome}
+use Rattle.basics.specs.declared.Refusal.TheVariants as why
 use Rattle.basics.proofs.RefusalLaws.{done, if_done_lem, if_refused, passes, stops, none_applies, asked-on, ended-there}
 use Rattle.station.specs.Values.{empty_station}
 use Rattle.station.specs.Calls.{read_outcome, read_station, write_outcome, written_station}
@@ -39,14 +39,14 @@ module _ (t d out : List ℕ) where
   refused o e z = (e, sym (if_refused (carriage_filing t d out) (spell_station (value_of made)) out (ap done (sym e) ∙ z)))
 
   -- Lent bytes of another length are refused,
-  pub not_the_length : (length out ≡ record_length → ⊥) → Files outcome.BufferLength out
+  pub not_the_length : (length out ≡ record_length → ⊥) → Files (Err why.BufferLength) out
   unfolding carriage_filing refusal
-  not_the_length n = refused outcome.BufferLength (sym (stops outcome.BufferLength (given_tests t d ++ rule) (ap not (ne_eqb (length out) record_length n)))) refl
+  not_the_length n = refused (Err why.BufferLength) (sym (stops (Err why.BufferLength) (given_tests t d ++ rule) (ap not (ne_eqb (length out) record_length n)))) refl
 
   module _ (n : length out ≡ record_length) where
     given-asked : carriage_filing t d out ≡ first_refusal (given_tests t d ++ rule)
     unfolding carriage_filing
-    given-asked = passes outcome.BufferLength (given_tests t d ++ rule) (ap not (eq-eqb (length out) record_length n))
+    given-asked = passes (Err why.BufferLength) (given_tests t d ++ rule) (ap not (eq-eqb (length out) record_length n))
 
     -- or the line, or the defaults;
     pub given_refused : (o : Outcome) → o ≡ first_refusal (given_tests t d) → done o ≡ false → Files o out
@@ -71,18 +71,15 @@ module _ (t d out : List ℕ) (rec : List ℕ) (is : rec ≡ carriage_record t d
 
   by_code : (o : Outcome) → o ≡ read_outcome rec → o ≡ judged (station_code (carriage_record t d))
   unfolding read_outcome judged
-  by_code o e = e ∙ passes outcome.RecordLength (rule_test (station_code rec) ∷ []) (ap not (eq-eqb (length rec) record_length size)) ∙ ap (λ (x : List ℕ). judged (station_code x)) is
+  by_code o e = e ∙ passes (Err why.RecordLength) (rule_test (station_code rec) ∷ []) (ap not (eq-eqb (length rec) record_length size)) ∙ ap (λ (x : List ℕ). judged (station_code x)) is
 
   -- One that breaks a rule is refused,
   pub made_broken : (o : Outcome) → o ≡ read_outcome rec → done o ≡ false → Made o out
   made_broken o e z = (by_code o e, sym (if_refused o (spell_station (value_of (carriage_record t d))) out z))
 
   -- and of any other the station is written.
-  pub made_done : (o : Outcome) (s : Station) → o ≡ read_outcome rec → s ≡ read_station rec → length out ≡ record_length → done o ≡ true → (after : List ℕ) → after ≡ written_station s out → Made o after
-  unfolding read_station written_station write_outcome first_refusal if_done refusal
-  made_done o s e es n y after w =
+  pub made_done : (o : Outcome) (s : Station) → o ≡ read_outcome rec → s ≡ read_station rec → done o ≡ true → (after : List ℕ) → after ≡ spell_station s → Made o after
+  unfolding read_station
+  made_done o s e es y after written =
       let value : s ≡ value_of rec = es ∙ if_done_lem (read_outcome rec) (value_of rec) empty_station (ap done (sym e) ∙ y) in
-      let kept : station_code rec ≡ 0 = eqb-true (station_code rec) 0 (sym (done-code rec size) ∙ ap done (sym e) ∙ y) in
-      let fits : typed_code s ≡ 0 = ap typed_code value ∙ read_fits rec size kept in
-      let written : after ≡ spell_station s = w ∙ rw (eq-eqb (length out) record_length n, fits) in
       (by_code o e, written ∙ ap spell_station (value ∙ ap value_of is) ∙ sym (if_done_lem o (spell_station (value_of (carriage_record t d))) out y))

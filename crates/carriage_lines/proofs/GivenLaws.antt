@@ -1,4 +1,5 @@
 -- What is asked of a carriage's line and of its defaults, test by test.
+use Rattle.std.specs.Prelude.{Ok, Err}
 use mathlib.Core.Path.{◌≡◌, refl, sym, ap, ◌∙◌}
 use mathlib.Core.Bool.{Bool, true, false, not, cond, ◌&&◌}
 use mathlib.Core.List.{List, [], ◌∷◌, ◌++◌}
@@ -9,9 +10,8 @@ use lib.ListN.{length}
 use borrow.Author.Tests.{eq-eqb, ne_eqb, eqb-true, not-false}
 use Rattle.columns.specs.Texts.{how_many}
 use Rattle.basics.specs.Fields.{record_length}
-use Rattle.basics.specs.Outcomes.{refusal, Test, when, first_refusal}
-use Rattle.basics.specs.declared.Outcome.{Outcome}
-use Rattle.basics.specs.declared.Outcome.TheVariants as outcome
+use Rattle.basics.specs.Outcomes.{refusal, Test, when, first_refusal, Outcome}
+use Rattle.basics.specs.declared.Refusal.TheVariants as why
 use Rattle.basics.proofs.RefusalLaws.{done, passes, stops, none_left, none_applies, asked-on, ended-there}
 use Rattle.station.specs.Calls.{read_outcome}
 use Rattle.station.specs.Codes.{station_code}
@@ -47,7 +47,7 @@ pub done-code : (r : List ℕ) → length r ≡ record_length → done (read_out
 unfolding read_outcome first_refusal refusal
 done-code r n = rw (eq-eqb (length r) record_length n) (by (eqb (station_code r) 0))
   where
-    by : (b : Bool) → done (cond (not b) (outcome.RuleBroken (station_code r)) outcome.Done) ≡ b
+    by : (b : Bool) → done (cond (not b) (Err (why.RuleBroken (station_code r))) (Ok tt)) ≡ b
     by true = refl
     by false = refl
 
@@ -57,19 +57,19 @@ module _ (t d : List ℕ) where
   Ends o = o ≡ first_refusal (given_tests t d)
 
   -- Defaults that are no record are refused,
-  pub not_a_record : (length d ≡ record_length → ⊥) → Ends outcome.RecordLength
+  pub not_a_record : (length d ≡ record_length → ⊥) → Ends (Err why.RecordLength)
   unfolding first_refusal
   not_a_record n = rw (ne_eqb (length d) record_length n)
 
   module _ (n : length d ≡ record_length) where
     -- or what is no line,
-    pub not_marked : is_carriage_line t ≡ false → Ends outcome.NotALine
+    pub not_marked : is_carriage_line t ≡ false → Ends (Err why.NotALine)
     unfolding first_refusal
     not_marked l = rw (eq-eqb (length d) record_length n, l)
 
     module _ (l : is_carriage_line t ≡ true) where
       -- or one with a long field,
-      pub long_own : none_longer own_places (own_fields t) ≡ false → Ends outcome.FieldTooLong
+      pub long_own : none_longer own_places (own_fields t) ≡ false → Ends (Err why.FieldTooLong)
       unfolding first_refusal
       long_own f = rw (eq-eqb (length d) record_length n, l, f)
 
@@ -78,13 +78,13 @@ module _ (t d : List ℕ) where
         number = number_tests (carriage_number t)
 
         abbrev mobile : List Test
-        mobile = when (not (is_mobile d)) outcome.NotMobileDefaults ∷ []
+        mobile = when (not (is_mobile d)) (Err why.NotMobileDefaults) ∷ []
 
         from_number : first_refusal (given_tests t d) ≡ first_refusal (number ++ mobile)
         from_number =
-            passes outcome.RecordLength _ (ap not (eq-eqb (length d) record_length n))
-            ∙ passes outcome.NotALine _ (ap not l)
-            ∙ passes outcome.FieldTooLong (number ++ mobile) (ap not f)
+            passes (Err why.RecordLength) _ (ap not (eq-eqb (length d) record_length n))
+            ∙ passes (Err why.NotALine) _ (ap not l)
+            ∙ passes (Err why.FieldTooLong) (number ++ mobile) (ap not f)
 
         -- or with a wrong number,
         pub wrong_number : (o : Outcome) → o ≡ first_refusal number → done o ≡ false → Ends o
@@ -96,12 +96,12 @@ module _ (t d : List ℕ) where
           from_mobile = from_number ∙ asked-on number mobile (none_applies number refl y)
 
           -- or defaults that are no accepted ML station;
-          pub not-mobile : is_mobile d ≡ false → Ends outcome.NotMobileDefaults
-          not-mobile m = sym (from_mobile ∙ stops outcome.NotMobileDefaults [] (ap not m))
+          pub not-mobile : is_mobile d ≡ false → Ends (Err why.NotMobileDefaults)
+          not-mobile m = sym (from_mobile ∙ stops (Err why.NotMobileDefaults) [] (ap not m))
 
           -- and any others are taken.
-          pub all_given : is_mobile d ≡ true → Ends outcome.Done
-          all_given m = sym (from_mobile ∙ passes outcome.NotMobileDefaults [] (ap not m) ∙ none_left)
+          pub all_given : is_mobile d ≡ true → Ends (Ok tt)
+          all_given m = sym (from_mobile ∙ passes (Err why.NotMobileDefaults) [] (ap not m) ∙ none_left)
 
   -- What is taken has these properties.
   module _ (y : done (first_refusal (given_tests t d)) ≡ true) where

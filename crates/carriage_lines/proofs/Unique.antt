@@ -1,8 +1,8 @@
 -- The promise of filing a carriage's line leaves one answer, and one content of the lent bytes.
+use Rattle.basics.specs.Outcomes.{Outcome}
 use mathlib.Core.Path.{◌≡◌, sym, ◌∙◌}
 use mathlib.Core.List.{List}
 use Prim.Native.Nat.{ℕ}
-use Rattle.basics.specs.declared.Outcome.{Outcome}
 use Rattle.carriage_lines.specs.Promises.{CarriageFiled}
 
 -- Two answers of `carriage_to_record` to one line, the same defaults and lent bytes are equal, and so is what they leave there.

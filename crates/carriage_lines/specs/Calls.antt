@@ -1,8 +1,7 @@
 -- Document 02, wish 6, on bytes: how filing a carriage's line as a record ends, and what it leaves.
-use Rattle.std.specs.Prelude.{ℕ, not, List, [], ◌∷◌, ◌++◌}
-use Rattle.basics.specs.Outcomes.{if_done, Test, when, first_refusal, record_test, buffer_test, rule_test}
-use Rattle.basics.specs.declared.Outcome.{Outcome}
-use Rattle.basics.specs.declared.Outcome.TheVariants as outcome
+use Rattle.std.specs.Prelude.{ℕ, not, List, [], ◌∷◌, ◌++◌, Err}
+use Rattle.basics.specs.Outcomes.{if_done, Test, when, first_refusal, record_test, buffer_test, rule_test, Outcome}
+use Rattle.basics.specs.declared.Refusal.TheVariants as why
 use Rattle.station.specs.Codes.{value_of, station_code}
 use Rattle.station.specs.Spelling.{spell_station}
 use Rattle.vehicles.specs.Digits.{number_tests}
@@ -13,9 +12,9 @@ use Rattle.carriage_lines.specs.Lines.{is_carriage_line, carriage_number, own_fi
 abbrev pub given_tests : List ℕ → List ℕ → List Test
 given_tests t defaults =
     record_test defaults
-    ∷ when (not (is_carriage_line t)) outcome.NotALine
-    ∷ when (not (none_longer own_places (own_fields t))) outcome.FieldTooLong
-    ∷ (number_tests (carriage_number t) ++ (when (not (is_mobile defaults)) outcome.NotMobileDefaults ∷ []))
+    ∷ when (not (is_carriage_line t)) (Err why.NotALine)
+    ∷ when (not (none_longer own_places (own_fields t))) (Err why.FieldTooLong)
+    ∷ (number_tests (carriage_number t) ++ (when (not (is_mobile defaults)) (Err why.NotMobileDefaults) ∷ []))
 
 -- Filing a carriage's line asks 7, then these, and last 9 with the code of the record that it makes.
 abbrev pub filing_tests : List ℕ → List ℕ → List ℕ → List Test

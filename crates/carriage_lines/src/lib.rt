@@ -16,12 +16,10 @@ use vehicle_names::name_of;
 pub fn field_after(line: &[u8], k: usize) -> &[u8]
     ensures { result.now ≡ field_behind k line.now }
 {
-    let mut at: usize = 0;
-    let mut i: usize = 0;
-    while i < k {
+    let mut at = 0;
+    for _ in 0..k {
         let field = field_at(line, at);
         at = past(line, at + field.len());
-        i += 1;
     }
     field_at(line, at)
 }

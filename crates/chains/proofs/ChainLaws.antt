@@ -15,6 +15,7 @@ use Rattle.columns.specs.Texts.{same}
 use Rattle.columns.proofs.SameLaws.{same_true}
 use Rattle.forms.specs.Counting.{or_else, first}
 use Rattle.forms.proofs.CountLaws.{first_cong}
+use Rattle.chains.specs.declared.chaining.Chain.{Chain}
 use Rattle.chains.specs.Chains.{Search, last, bears, first_bearer, leads, chained, slots, record_numbers, Linked, Chains}
 
 -- The highest that passes is not above n,
@@ -185,7 +186,7 @@ module _ (s : Search) where
     first_start = first-last (k - 1)
 
   -- Before any station no chain has one.
-  pub none-chained : Chains s (replicate slots 0) (replicate record_numbers 0) 0
+  pub none-chained : Chains s (record { heads = replicate slots 0; nexts = replicate record_numbers 0 }) 0
   unfolding Linked
   none-chained =
       record {
@@ -195,9 +196,9 @@ module _ (s : Search) where
         links = λ i h l on. absurd (omega arith);
       }
 
-  module _ (heads nexts : List ℕ) (m : ℕ) (so_far : Chains s heads nexts m) where
+  module _ (chain : Chain) (m : ℕ) (so_far : Chains s chain m) where
     -- A station that does not lead stays outside,
-    pub stays_out : leads s (suc m) ≡ false → Chains s heads nexts (suc m)
+    pub stays_out : leads s (suc m) ≡ false → Chains s chain (suc m)
     unfolding Linked
     stays_out n =
         record {
@@ -211,41 +212,41 @@ module _ (s : Search) where
 
     -- and one that leads goes in front.
     pub goes_in_front : leads s (suc m) ≡ true → suc m < record_numbers → s.slot (s.key (suc m)) < slots
-        → Chains s (set heads (s.slot (s.key (suc m))) (suc m)) (set nexts (suc m) (get_or heads (s.slot (s.key (suc m))) 0)) (suc m)
+        → Chains s (record { heads = set chain.heads (s.slot (s.key (suc m))) (suc m); nexts = set chain.nexts (suc m) (get_or chain.heads (s.slot (s.key (suc m))) 0) }) (suc m)
     unfolding Linked
     goes_in_front on-lead fits small =
         let h₀ : ℕ = s.slot (s.key (suc m)) in
-        let rh : h₀ < length heads = omega (arith, so_far.heads_size) in
-        let rn : suc m < length nexts = omega (arith, so_far.nexts_size) in
+        let rh : h₀ < length chain.heads = omega (arith, so_far.heads_size) in
+        let rn : suc m < length chain.nexts = omega (arith, so_far.nexts_size) in
         record {
-          heads_size = length-set heads h₀ (suc m) ∙ so_far.heads_size;
-          nexts_size = length-set nexts (suc m) (get_or heads h₀ 0) ∙ so_far.nexts_size;
+          heads_size = length-set chain.heads h₀ (suc m) ∙ so_far.heads_size;
+          nexts_size = length-set chain.nexts (suc m) (get_or chain.heads h₀ 0) ∙ so_far.nexts_size;
           tops = λ h l.
               dite (ℕ_discrete h h₀)
               (λ e.
-              subst (λ (x : ℕ). get_or (set heads h₀ (suc m)) x 0 ≡ last (chained s x) (suc m)) (sym e)
-              (get_or-set_same heads h₀ (suc m) 0 rh ∙ sym (last_here (chained s h₀) m (is_chained (suc m) h₀ on-lead refl))))
-              (λ ne. get_or-set_other heads h₀ h (suc m) 0 ne ∙ so_far.tops h l ∙ sym (last_past (chained s h) m (other_slot (suc m) h (λ q. ne (sym q)))));
+              subst (λ (x : ℕ). get_or (set chain.heads h₀ (suc m)) x 0 ≡ last (chained s x) (suc m)) (sym e)
+              (get_or-set_same chain.heads h₀ (suc m) 0 rh ∙ sym (last_here (chained s h₀) m (is_chained (suc m) h₀ on-lead refl))))
+              (λ ne. get_or-set_other chain.heads h₀ h (suc m) 0 ne ∙ so_far.tops h l ∙ sym (last_past (chained s h) m (other_slot (suc m) h (λ q. ne (sym q)))));
           links = λ i h l on.
               ⊎_elim
               (λ q. let w : suc i ≡ suc m = q in
               let e : i ≡ m = omega arith in
               let own : h₀ ≡ h = own_slot (suc m) h (rw e at on) in
-              rw e (get_or-set_same nexts (suc m) (get_or heads h₀ 0) 0 rn ∙ so_far.tops h₀ small ∙ ap (λ x. last (chained s x) m) own))
+              rw e (get_or-set_same chain.nexts (suc m) (get_or chain.heads h₀ 0) 0 rn ∙ so_far.tops h₀ small ∙ ap (λ x. last (chained s x) m) own))
               (λ b. let b' : suc i < suc m = b in
-              get_or-set_other nexts (suc m) (suc i) (get_or heads h₀ 0) 0 (λ q. absurd (omega arith)) ∙ so_far.links i h (omega arith) on)
+              get_or-set_other chain.nexts (suc m) (suc i) (get_or chain.heads h₀ 0) 0 (λ q. absurd (omega arith)) ∙ so_far.links i h (omega arith) on)
               (eq-or-lt_of_le l);
         }
 
   -- The same at station k, where those before it are chained.
-  module _ (heads nexts : List ℕ) where
-    pub left_out : (k : ℕ) → 1 ≤ k → Chains s heads nexts (k - 1) → leads s k ≡ false → Chains s heads nexts k
+  module _ (chain : Chain) where
+    pub left_out : (k : ℕ) → 1 ≤ k → Chains s chain (k - 1) → leads s k ≡ false → Chains s chain k
     left_out zero l so_far n = absurd (omega arith)
-    left_out (suc m) l so_far n = let d : suc m - 1 ≡ m = omega arith in stays_out heads nexts m (rw d at so_far) n
+    left_out (suc m) l so_far n = let d : suc m - 1 ≡ m = omega arith in stays_out chain m (rw d at so_far) n
 
-    pub put_in_front : (k h : ℕ) → 1 ≤ k → Chains s heads nexts (k - 1) → h ≡ s.slot (s.key k) → h < slots → leads s k ≡ true → k < record_numbers
-        → Chains s (set heads h k) (set nexts k (get_or heads h 0)) k
+    pub put_in_front : (k h : ℕ) → 1 ≤ k → Chains s chain (k - 1) → h ≡ s.slot (s.key k) → h < slots → leads s k ≡ true → k < record_numbers
+        → Chains s (record { heads = set chain.heads h k; nexts = set chain.nexts k (get_or chain.heads h 0) }) k
     put_in_front zero h l so_far e small on fits = absurd (omega arith)
     put_in_front (suc m) h l so_far e small on fits =
         let d : suc m - 1 ≡ m = omega arith in
-        rw e (goes_in_front heads nexts m (rw d at so_far) on fits (rw e at small))
+        rw e (goes_in_front chain m (rw d at so_far) on fits (rw e at small))

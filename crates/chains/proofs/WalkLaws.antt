@@ -7,15 +7,16 @@ use native.Mathlib.Omega.{arith}
 use lib.ListN.{get_or}
 use Rattle.columns.specs.Texts.{same}
 use Rattle.forms.specs.Counting.{first}
+use Rattle.chains.specs.declared.chaining.Chain.{Chain}
 use Rattle.chains.specs.declared.keys.Key.{Key}
 use Rattle.chains.specs.Chains.{slots, last, bears, first_bearer, chained, Chains}
 use Rattle.chains.specs.Keys.{key_at, slot_of, lookup, Begun, Startable}
 use Rattle.chains.proofs.ChainLaws.{last_most, last-passes, chained-leads, first_start, first_hit, first_miss}
 
 -- A chain begins at the highest of its slot.
-pub chain_begun : (key : Key) (file heads nexts : List ℕ) (k h : ℕ) → h ≡ slot_of key (key_at key file k) → h < slots → (who : ℕ → Bool) → Chains (lookup key who file) heads nexts (k - 1)
-    → Begun key file nexts (get_or heads h 0) k who
-chain_begun key file heads nexts k h e small who chains =
+pub chain_begun : (key : Key) (file : List ℕ) (chain : Chain) (k h : ℕ) → h ≡ slot_of key (key_at key file k) → h < slots → (who : ℕ → Bool) → Chains (lookup key who file) chain (k - 1)
+    → Begun key file chain.nexts (get_or chain.heads h 0) k who
+chain_begun key file chain k h e small who chains =
     record { links = chains.links; top = chains.tops h small ∙ ap (λ (x : ℕ). last (chained (lookup key who file) x) (k - 1)) e }
 
 module _ (key : Key) (file nexts : List ℕ) (start k : ℕ) where

@@ -2,6 +2,7 @@
 use Rattle.std.specs.Prelude.{ℕ, zero, suc, ◌+◌, ◌-◌, ◌<◌, ◌≡◌, Bool, true, cond, ◌&&◌, List, length, get_or, eqb}
 use Rattle.columns.specs.Texts.{same}
 use Rattle.files.specs.Files.{most_stations}
+use Rattle.chains.specs.declared.chaining.Chain.{Chain}
 use Rattle.forms.specs.Counting.{first}
 
 -- A search: which stations take part, the key of each, and the slot of a key.
@@ -43,8 +44,8 @@ unfoldable pub Linked : Search → List ℕ → ℕ → Type 0
 Linked s nexts m = (i h : ℕ) → i < m → chained s h (suc i) ≡ true → get_or nexts (suc i) 0 ≡ last (chained s h) i
 
 -- The first m stations are chained: heads has the highest one of each slot, or 0.
-pub record Chains (s : Search) (heads nexts : List ℕ) (m : ℕ) : Type 0 where
-  pub heads_size : length heads ≡ slots
-  pub nexts_size : length nexts ≡ record_numbers
-  pub tops : (h : ℕ) → h < slots → get_or heads h 0 ≡ last (chained s h) m
-  pub links : Linked s nexts m
+pub record Chains (s : Search) (chain : Chain) (m : ℕ) : Type 0 where
+  pub heads_size : length chain.heads ≡ slots
+  pub nexts_size : length chain.nexts ≡ record_numbers
+  pub tops : (h : ℕ) → h < slots → get_or chain.heads h 0 ≡ last (chained s h) m
+  pub links : Linked s chain.nexts m

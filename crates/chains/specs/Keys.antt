@@ -2,6 +2,7 @@
 use Rattle.std.specs.Prelude.{ℕ, ◌+◌, ◌-◌, ◌/◌, ◌%◌, Bool, ◌≡◌, List}
 use Rattle.words.specs.Words.{word_of, word_at}
 use Rattle.stations.specs.Stations.{reference_at, site_at}
+use Rattle.chains.specs.declared.chaining.Chain.{Chain}
 use Rattle.chains.specs.declared.keys.Key.{Key}
 use Rattle.chains.specs.declared.keys.Key.TheVariants as key
 use Rattle.chains.specs.Chains.{Search, last, chained, Linked, Chains}
@@ -24,9 +25,9 @@ abbrev pub lookup : Key → (ℕ → Bool) → List ℕ → Search
 lookup key who file = record { takes = who; key = key_at key file; slot = slot_of key }
 
 -- The stations to m are chained, whoever takes part.
-pub record Chained (key : Key) (file heads nexts : List ℕ) (m : ℕ) : Type 0 where
+pub record Chained (key : Key) (file : List ℕ) (chain : Chain) (m : ℕ) : Type 0 where
   pub who : ℕ → Bool
-  pub chains : Chains (lookup key who file) heads nexts m
+  pub chains : Chains (lookup key who file) chain m
 
 -- Where some take part, those before k are linked, and start is the highest in the chain of station k's slot.
 pub record Begun (key : Key) (file nexts : List ℕ) (start k : ℕ) (who : ℕ → Bool) : Type 0 where

@@ -1,8 +1,8 @@
 // The keys that stations are looked up by, as numbers, and who takes part.
-ghost use Rattle.std.specs.Prelude.{◌≡◌, ◌+◌, ◌*◌, ◌≤◌, ◌<◌, length};
+ghost use Rattle.std.specs.Prelude.{◌≡◌, ◌+◌, ◌*◌, ◌<◌, length};
 ghost use Rattle.columns.specs.Texts.{same};
 ghost use Rattle.words.specs.Words.{word_of};
-ghost use Rattle.basics.specs.Fields.{record_length};
+ghost use Rattle.files.specs.Files.{HasRecord};
 ghost use Rattle.stations.specs.Stations.{reference_at, site_at};
 ghost use Rattle.chains.specs.Chains.{slots};
 ghost use Rattle.chains.specs.Keys.{key_at, reference_slot, slot_of};
@@ -38,7 +38,7 @@ const ABOVE_SIX: u64 = 281474976710656;
 
 // Station k's operator and site as one number.
 pub fn site_number(file: &[u8], k: usize) -> u64
-    requires { record_length * k + record_length ≤ length file.now }
+    requires { HasRecord file.now k }
     ensures { result ≡ word_of (site_at file.now k) }
 {
     word(file, RECORD_LENGTH * k + SITE_START) % ABOVE_SIX
@@ -46,7 +46,7 @@ pub fn site_number(file: &[u8], k: usize) -> u64
 
 // Whether two stations bear one operator and site.
 fn same_site(file: &[u8], i: usize, k: usize) -> bool
-    requires { (record_length * i + record_length ≤ length file.now) × (record_length * k + record_length ≤ length file.now) }
+    requires { HasRecord file.now i × HasRecord file.now k }
     ensures { result ≡ same (site_at file.now i) (site_at file.now k) }
 {
     site_number(file, i) == site_number(file, k)
@@ -54,7 +54,7 @@ fn same_site(file: &[u8], i: usize, k: usize) -> bool
 
 // Whether two stations bear one 13X.
 fn same_reference(file: &[u8], i: usize, k: usize) -> bool
-    requires { (record_length * i + record_length ≤ length file.now) × (record_length * k + record_length ≤ length file.now) }
+    requires { HasRecord file.now i × HasRecord file.now k }
     ensures { result ≡ same (reference_at file.now i) (reference_at file.now k) }
 {
     equal_words(reference(file, i), reference(file, k))
@@ -62,7 +62,7 @@ fn same_reference(file: &[u8], i: usize, k: usize) -> bool
 
 // Whether two stations bear one key.
 pub(crate) fn same_key(file: &[u8], key: Key, i: usize, k: usize) -> bool
-    requires { (record_length * i + record_length ≤ length file.now) × (record_length * k + record_length ≤ length file.now) }
+    requires { HasRecord file.now i × HasRecord file.now k }
     ensures { result ≡ same (key_at key file.now i) (key_at key file.now k) }
 {
     match key {
@@ -82,7 +82,7 @@ fn reference_slot(mine: &[u8]) -> usize
 
 // The slot of station k's key.
 pub(crate) fn slot(file: &[u8], key: Key, k: usize) -> usize
-    requires { record_length * k + record_length ≤ length file.now }
+    requires { HasRecord file.now k }
     ensures value { result ≡ slot_of key (key_at key file.now k) }
     ensures upper_bound { result < slots }
 {

@@ -1,12 +1,12 @@
 -- A record read, its station changed and written back: the three calls together end as a change does.
+use Rattle.std.specs.Prelude.{Ok, Err}
 use mathlib.Core.Path.{◌≡◌, refl, sym, ap, ◌∙◌}
 use mathlib.Core.Bool.{Bool, true, false}
 use mathlib.Core.List.{List, [], ◌∷◌}
 use Prim.Native.Nat.{ℕ}
 use borrow.Author.Tests.{eqb-true, not-false}
-use Rattle.basics.specs.Outcomes.{refusal, if_done, record_test, rule_test, judged}
-use Rattle.basics.specs.declared.Outcome.{Outcome}
-use Rattle.basics.specs.declared.Outcome.TheVariants as outcome
+use Rattle.basics.specs.Outcomes.{refusal, if_done, record_test, rule_test, judged, Outcome}
+use Rattle.basics.specs.declared.Refusal.TheVariants as why
 use Rattle.basics.proofs.RefusalLaws.{done, done_is, if_done_lem, if_refused, none_applies, asked-on, ended-there}
 use Rattle.basics.proofs.CallLaws.{accepted}
 use Rattle.station.specs.Values.{empty_station}
@@ -58,11 +58,11 @@ module _ (change : Station → Station) (r : List ℕ) (read : ReadStation) (set
       own = q.1 ∙ rw value (if_done_lem (set_outcome (change (value_of r))) (change (value_of r)) (value_of r) made)
 
       -- and may be written without being judged again.
-      pub may_put : written ≡ outcome.Done
+      pub may_put : written ≡ Ok tt
       unfolding set_outcome judged read_outcome write_outcome refusal
       may_put =
           let code : typed_code (change (value_of r)) ≡ 0 = eqb-true (typed_code (change (value_of r))) 0 (not-false _ (none_applies (rule_test (typed_code (change (value_of r))) ∷ []) refl made).0) in
-          taken r (typed_code settled.station) outcome.BufferLength (accepted r (station_code r) outcome.RecordLength refl yes).0 (ap typed_code own ∙ code)
+          taken r (typed_code settled.station) (Err why.BufferLength) (accepted r (station_code r) (Err why.RecordLength) refl yes).0 (ap typed_code own ∙ code)
 
   -- What such a record holds after it:
   module _ {answer : Outcome} {after : List ℕ} (h : RecordSettled read settled r answer after) where
@@ -89,11 +89,11 @@ module _ (change : Station → Station) (r : List ℕ) (read : ReadStation) (set
     unfolding changed_record written_station refusal
     setting_done d t =
         let put = may_put d t in
-        let over : change_outcome change r ≡ outcome.Done = sym (settled_so d) ∙ done_is settled.outcome t in (
+        let over : change_outcome change r ≡ (Ok tt) = sym (settled_so d) ∙ done_is settled.outcome t in (
           h.0 ∙ second_ends read.outcome (then settled.outcome written) d ∙ second_ends settled.outcome written t ∙ put ∙ sym over,
           h.1 ∙ if_done_lem read.outcome _ r d ∙ if_done_lem settled.outcome _ r t
-              ∙ ap (λ (x : Outcome). if_done x (spell_station settled.station) r) put ∙ if_done_lem outcome.Done (spell_station settled.station) r refl ∙ ap spell_station (own d t)
-              ∙ sym (ap (λ (x : Outcome). if_done x (spell_station (change (value_of r))) r) over ∙ if_done_lem outcome.Done (spell_station (change (value_of r))) r refl),
+              ∙ ap (λ (x : Outcome). if_done x (spell_station settled.station) r) put ∙ if_done_lem (Ok tt) (spell_station settled.station) r refl ∙ ap spell_station (own d t)
+              ∙ sym (ap (λ (x : Outcome). if_done x (spell_station (change (value_of r))) r) over ∙ if_done_lem (Ok tt) (spell_station (change (value_of r))) r refl),
         )
 
     -- and so the record holds the changed station's spelling, or what it held.

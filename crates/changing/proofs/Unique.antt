@@ -1,8 +1,8 @@
 -- The promise of changing a value leaves one answer, and one content of the record.
+use Rattle.basics.specs.Outcomes.{Outcome}
 use mathlib.Core.Path.{◌≡◌}
 use mathlib.Core.List.{List}
 use Prim.Native.Nat.{ℕ}
-use Rattle.basics.specs.declared.Outcome.{Outcome}
 use Rattle.station.specs.declared.Station.{Station}
 use Rattle.respelling.proofs.Unique.{one}
 use Rattle.changing.specs.Promises.{RecordChanged}

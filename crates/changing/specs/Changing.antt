@@ -1,7 +1,6 @@
 -- Document 01, "Refusal numbers", for a record in which one value is changed: how the calls end, and what they leave in the record.
 use Rattle.std.specs.Prelude.{ℕ, List, [], ◌∷◌}
-use Rattle.basics.specs.Outcomes.{if_done, first_refusal, record_test, rule_test}
-use Rattle.basics.specs.declared.Outcome.{Outcome}
+use Rattle.basics.specs.Outcomes.{if_done, first_refusal, record_test, rule_test, Outcome}
 use Rattle.station.specs.Spelling.{spell_station}
 use Rattle.station.specs.Codes.{value_of, station_code, typed_code}
 use Rattle.station.specs.declared.Station.{Station}

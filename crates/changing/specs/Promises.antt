@@ -1,6 +1,6 @@
 -- What changing a value promises, as relations between what it is given, its answer and what it leaves.
+use Rattle.basics.specs.Outcomes.{Outcome}
 use Rattle.std.specs.Prelude.{ℕ, ◌≡◌, List}
-use Rattle.basics.specs.declared.Outcome.{Outcome}
 use Rattle.station.specs.declared.Station.{Station}
 use Rattle.changing.specs.Changing.{change_outcome, changed_record}
 

@@ -3,10 +3,9 @@
 #![tactic(auto)]
 
 use columns::sets::Set;
-use days::dates::{Dated, Day};
 use formats::Format;
-use numerals::{Signed, Whole};
-use positions::{Located, Position};
+use positions::Position;
+use vector_lines::answer_vectors;
 
 // Writes to standard output.
 fn put(s: &[u8]) {
@@ -61,9 +60,9 @@ fn write_first(space: &mut [u8], n: usize, v: u64) {
 // A whole number, and its spelling in columns of the same width.
 fn whole(s: &[u8]) {
     match numerals::read_whole(s) {
-        Whole::Bad => put(b" bad\n"),
-        Whole::Blank => put(b" blank\n"),
-        Whole::Filled(v) => {
+        Err(_) => put(b" bad\n"),
+        Ok(None) => put(b" blank\n"),
+        Ok(Some(v)) => {
             put(b" ");
             io::print_decimal(1, v);
             let mut space = [0u8; 300];
@@ -86,9 +85,9 @@ fn write_height(v: i64) {
 // A whole number with a sign, and its spelling in four columns.
 fn signed(s: &[u8], only_written: bool) {
     match signed_numerals::read_signed(s) {
-        Signed::Bad(_) => put(b" bad\n"),
-        Signed::Blank => put(b" blank\n"),
-        Signed::Filled(v) => {
+        Err(_) => put(b" bad\n"),
+        Ok(None) => put(b" blank\n"),
+        Ok(Some(v)) => {
             if !only_written {
                 put(b" ");
                 put_number(v);
@@ -122,9 +121,9 @@ fn write_format(format: Format, space: &mut [u8], v: i64) {
 // A decimal, and its spelling.
 fn decimal(format: Format, s: &[u8]) {
     match formats::read_decimal(format, s) {
-        Signed::Bad(_) => put(b" bad\n"),
-        Signed::Blank => put(b" blank\n"),
-        Signed::Filled(v) => {
+        Err(_) => put(b" bad\n"),
+        Ok(None) => put(b" blank\n"),
+        Ok(Some(v)) => {
             put(b" ");
             put_number(v);
             let mut space = [0u8; 16];
@@ -136,9 +135,9 @@ fn decimal(format: Format, s: &[u8]) {
 // A typed number, written as a decimal.
 fn typed(format: Format, s: &[u8]) {
     match signed_numerals::read_signed(s) {
-        Signed::Bad(_) => put(b" bad\n"),
-        Signed::Blank => put(b" blank\n"),
-        Signed::Filled(v) => {
+        Err(_) => put(b" bad\n"),
+        Ok(None) => put(b" blank\n"),
+        Ok(Some(v)) => {
             let mut space = [0u8; 16];
             write_format(format, &mut space, v);
         }
@@ -148,9 +147,9 @@ fn typed(format: Format, s: &[u8]) {
 // A date, and its spelling.
 fn date(s: &[u8]) {
     match days::dates::read_date(s) {
-        Dated::Bad(_) => put(b" bad\n"),
-        Dated::Blank => put(b" blank\n"),
-        Dated::Filled(d) => {
+        Err(_) => put(b" bad\n"),
+        Ok(None) => put(b" blank\n"),
+        Ok(Some(d)) => {
             put(b" ");
             io::print_decimal(1, d.day as u64);
             put(b" ");
@@ -158,7 +157,7 @@ fn date(s: &[u8]) {
             put(b" ");
             io::print_decimal(1, d.year as u64);
             let mut space = [0u8; 8];
-            let written = day_writing::write_day(&mut space, Day::Filled(d));
+            let written = day_writing::write_day(&mut space, Some(d));
             put_columns(written, &space);
         }
     }
@@ -178,8 +177,8 @@ fn write_position(p: Position) {
 // A position, and its spelling.
 fn position(s: &[u8]) {
     match positions::read_position(s) {
-        Located::Bad(_) => put(b" bad\n"),
-        Located::Filled(p) => {
+        Err(_) => put(b" bad\n"),
+        Ok(p) => {
             put(b" ");
             put_number(p.east);
             put(b" ");
@@ -279,30 +278,9 @@ fn answer(kind: u8, s: &[u8]) {
     put(b" no such kind\n");
 }
 
-// All vectors, and how many there were.
-fn run(s: &[u8]) {
-    let mut at: usize = 0;
-    let mut count: u64 = 0;
-    while at < s.len() {
-        let rest = &s[at..];
-        let e = vector_lines::bytes_end(rest);
-        if e < 5 {
-            put(b"cut short\n");
-            return;
-        }
-        if e >= rest.len() {
-            return;
-        }
-        answer(rest[0], &rest[5..e]);
-        at += e + 1;
-        count += 1;
-    }
-    io::print_decimal(1, count);
-    put(b" vectors\n");
-}
-
+// Answers all vectors, and says how many there were.
 fn main() {
     let mut space = io::large_buffer();
     let n = io::read_full(0, &mut space);
-    run(&space[..n]);
+    answer_vectors(&space[..n], answer);
 }

@@ -10,8 +10,9 @@ use native.Mathlib.Numerals.{add-one, sub-one}
 use lib.Arith.{lt_of_le-ne}
 use lib.Dec.{eqb, eqb-suc-suc}
 use lib.ListN.{length, get_or, take, drop, replicate, length-drop, drop_of_length-le, get_or-eq_default}
-use lib.Seq.{drop-cons, get_or-drop, drop-drop, take_all, take-suc, take-length, length-take-le}
+use lib.Seq.{drop-cons, get_or-drop, drop-drop, take_all, take-suc, length-take-le}
 use borrow.Author.Tests.{eq-eqb, ne_eqb, eqb-true}
+use Rattle.std.specs.List.{list_all}
 use Rattle.columns.specs.Texts.{head, tail, ended, skip, blank, trimmed, every, each, same, text_in}
 
 -- the text of columns that are there is their bytes
@@ -73,31 +74,24 @@ pub ended-length : (t : List ℕ) → ended t ≡ eqb (length t) 0
 ended-length [] = refl
 ended-length (c ∷ t) = sym (ne_eqb (suc (length t)) 0 (λ e. omega arith))
 
--- spaces
-pub skip_space : (s : List ℕ) (i : ℕ) → i < length s → get_or s i 0 ≡ 32 → skip (drop i s) ≡ skip (drop (i + 1) s)
-unfolding skip
-skip_space s i h e = rw (add-one, drop-cons s i 0) (simp (eq-eqb _ _ e))
-
 pub skip_other : (s : List ℕ) (i : ℕ) → i < length s → (get_or s i 0 ≡ 32 → ⊥) → skip (drop i s) ≡ drop i s
 unfolding skip
 skip_other s i h e = rw (drop-cons s i 0) (simp (ne_eqb _ _ e))
-
-pub skip_end : (s : List ℕ) (i : ℕ) → length s ≤ i → skip (drop i s) ≡ drop i s
-unfolding skip
-skip_end s i h = rw (drop_of_length-le s h)
 
 -- a test on every byte
 pub every_more : (test : ℕ → Bool) (s : List ℕ) (i : ℕ) → i < length s → test (get_or s i 0) ≡ true → every test (drop i s) ≡ every test (drop (i + 1) s)
 unfolding every
 every_more test s i h e = rw (add-one, drop-cons s i 0, e)
 
-pub every-not : (test : ℕ → Bool) (s : List ℕ) (i : ℕ) → i < length s → test (get_or s i 0) ≡ false → every test (drop i s) ≡ false
-unfolding every
-every-not test s i h e = rw (drop-cons s i 0, e)
-
 pub every_end : (test : ℕ → Bool) (s : List ℕ) (i : ℕ) → length s ≤ i → every test (drop i s) ≡ true
 unfolding every
 every_end test s i h = rw (drop_of_length-le s h)
+
+-- the library asks the same of every byte
+pub every-list_all : (test : ℕ → Bool) (s : List ℕ) → every test s ≡ list_all test s
+unfolding every
+every-list_all test [] = refl
+every-list_all test (c ∷ s) = ap (λ (b : Bool). test c && b) (every-list_all test s)
 
 -- asked byte after byte, with what was found so far
 pub every_next : (test : ℕ → Bool) (s : List ℕ) (i : ℕ) (all b : Bool) → i < length s → b ≡ test (get_or s i 0) → (all && every test (drop i s)) ≡ ((all && b) && every test (drop (i + 1) s))
@@ -130,11 +124,6 @@ not_same a b n = by (same a b) refl where
   by : (r : Bool) → same a b ≡ r → r ≡ false
   by true e = absurd (n (same_length a b e))
   by false e = refl
-
--- spaces in every column of a text
-pub blanked : (s : List ℕ) → replicate (length s) 32 ++ drop (length s) s ≡ replicate (length s) 32
-blanked [] = refl
-blanked (x ∷ s) = ap (λ (l : List ℕ). 32 ∷ l) (blanked s)
 
 -- a test on every byte passes on every part
 pub every_take : (test : ℕ → Bool) (n : ℕ) (p : List ℕ) → every test p ≡ true → every test (take n p) ≡ true
@@ -238,10 +227,6 @@ same-before a b n h l e =
     rw (first-bytes a n h l, first-bytes b n h (omega (arith, l, e)))
     (same-last (take (n - 1) a) (take (n - 1) b) (get_or a (n - 1) 0) (get_or b (n - 1) 0)
     (length-take-le (n - 1) a (omega (arith, l)) ∙ sym (length-take-le (n - 1) b (omega (arith, l, e)))))
-
--- a comparison from the back: at first nothing is passed
-pub same_whole : (a b : List ℕ) → length a ≡ length b → same a b ≡ same (take (length a) a) (take (length a) b)
-same_whole a b e = rw (take-length a, e, take-length b)
 
 -- a byte that is equal is passed, one that is not decides
 pub same-on : (a b : List ℕ) (n : ℕ) → 0 < n → n ≤ length a → length a ≡ length b → get_or a (n - 1) 0 ≡ get_or b (n - 1) 0 → same (take n a) (take n b) ≡ same (take (n - 1) a) (take (n - 1) b)

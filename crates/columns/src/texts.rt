@@ -17,15 +17,7 @@ pub fn byte(s: &[u8], i: usize) -> u8
 pub fn spaces(s: &[u8]) -> usize
     ensures { (result ≤ length s.now) × (skip s.now ≡ drop result s.now) }
 {
-    let mut at = 0;
-    while at < s.len() {
-        if s[at] == b' ' {
-            at += 1;
-        } else {
-            return at;
-        }
-    }
-    at
+    s.iter().take_while(|c| **c == b' ').count()
 }
 
 // All spaces, asked one after the other: for what is mostly told by its first bytes.
@@ -40,10 +32,8 @@ pub fn is_blank(s: &[u8]) -> bool
     ensures { result ≡ blank s.now }
 {
     let mut all = true;
-    let mut i = 0;
-    while i < s.len() {
-        all = all & (s[i] == b' ');
-        i += 1;
+    for c in s {
+        all = all & (*c == b' ');
     }
     all
 }
@@ -53,10 +43,8 @@ pub fn all_in(set: Set, s: &[u8]) -> bool
     ensures { result ≡ every (set_of set) s.now }
 {
     let mut all = true;
-    let mut i = 0;
-    while i < s.len() {
-        all = all & has(set, s[i]);
-        i += 1;
+    for c in s {
+        all = all & has(set, *c);
     }
     all
 }
@@ -67,10 +55,8 @@ pub fn is_framed(s: &[u8], low: &[u8], high: &[u8]) -> bool
     ensures { result ≡ each (frames low.now high.now) s.now }
 {
     let mut all = true;
-    let mut i = 0;
-    while i < s.len() {
-        all = all & is_between(low[i], high[i], s[i]);
-        i += 1;
+    for (i, c) in s.iter().enumerate() {
+        all = all & is_between(low[i], high[i], *c);
     }
     all
 }
@@ -82,13 +68,10 @@ pub fn equal(a: &[u8], b: &[u8]) -> bool
     if a.len() != b.len() {
         return false;
     }
-    let mut left = a.len();
-    while 0 < left {
-        let last = left - 1;
-        if a[last] != b[last] {
+    for i in (0..a.len()).rev() {
+        if a[i] != b[i] {
             return false;
         }
-        left = last;
     }
     true
 }
@@ -123,11 +106,7 @@ pub fn is_left_text(s: &[u8], w: usize, set: Set) -> bool
 pub fn write_blank(s: &mut [u8])
     ensures { s.new ≡ replicate (length s.old) 32 }
 {
-    let mut i = 0;
-    while i < s.len() {
-        s[i] = b' ';
-        i += 1;
-    }
+    s.fill(b' ');
 }
 
 // Text in columns of its own width; in others nothing is written.
@@ -158,13 +137,10 @@ pub fn write_byte(s: &mut [u8], b: u8) -> bool
 pub fn trimmed_length(s: &[u8]) -> usize
     ensures { (result ≤ length s.now) × (trimmed s.now ≡ take result s.now) }
 {
-    let mut n = s.len();
-    while 0 < n {
-        let last = n - 1;
-        if s[last] != b' ' {
-            return n;
+    for i in (0..s.len()).rev() {
+        if s[i] != b' ' {
+            return i + 1;
         }
-        n = last;
     }
     0
 }

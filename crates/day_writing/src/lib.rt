@@ -6,7 +6,7 @@ ghost use Rattle.columns.specs.Texts.{sized};
 ghost use Rattle.days.specs.Dates.{spell_date, day_fits, spell_day};
 
 use columns::texts::write_blank;
-use days::dates::{Date, Day, fits_day};
+use days::dates::{Date, fits_day};
 use numeral_writing::put_digits;
 
 // Writes a date in its eight columns, from the last to the first.
@@ -20,18 +20,18 @@ fn put_date(s: &mut [u8], d: Date)
 }
 
 // Writes a date, or blank, in its eight columns.
-pub fn put_day(s: &mut [u8], v: Day)
+pub fn put_day(s: &mut [u8], v: Option<Date>)
     requires { length s.old ≡ 8 }
     ensures { s.new ≡ spell_day v }
 {
     match v {
-        Day::Blank => write_blank(s),
-        Day::Filled(d) => put_date(s, d),
+        None => write_blank(s),
+        Some(d) => put_date(s, d),
     }
 }
 
 // A date that keeps its rule, or blank, in eight columns; else nothing is written.
-pub fn write_day(s: &mut [u8], v: Day) -> bool
+pub fn write_day(s: &mut [u8], v: Option<Date>) -> bool
     ensures value { result ≡ sized 8 s.old && day_fits v }
     ensures s_after { s.new ≡ cond (sized 8 s.old && day_fits v) (spell_day v) s.old }
 {

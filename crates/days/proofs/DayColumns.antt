@@ -15,14 +15,12 @@ use Rattle.numerals.specs.Numbers.{number, spell_digits, spell_whole}
 use Rattle.calendar.specs.Calendar.{is_leap, is_short, days_in}
 use Rattle.days.specs.Dates.{within, date_by, date_rule, date_in, date_reads, date_of, day_passes, date_filled, in_day, spell_date, day_good, day_of, day_fits, spell_day, date_good, date_fits}
 use Rattle.days.specs.declared.dates.Date.{Date}
-use Rattle.days.specs.declared.dates.Dated.{Dated}
-use Rattle.days.specs.declared.dates.Dated.TheVariants as dated
-use Rattle.days.specs.declared.dates.Day.{Day}
-use Rattle.days.specs.declared.dates.Day.TheVariants as day
 use Rattle.columns.proofs.TextLaws.{and_split, and_both, cond_case, each-replicate}
 use Rattle.numerals.proofs.NumberLaws.{digit_range}
 use Rattle.numerals.proofs.RoundTrip.{spelled_front, spelled_digits, spelled_length, spelled_says}
 use Rattle.columns.proofs.ColumnLaws.{Column}
+use Rattle.std.specs.Prelude.{Option, Some, None, Result, Ok, Err}
+use Rattle.flaws.specs.declared.Flaw.{Flaw}
 
 -- the three numbers of a date, one after the other
 date_parts : (d : Date) → spell_date d ≡ spell_whole 2 d.day ++ (spell_whole 2 d.month ++ spell_whole 4 d.year)
@@ -108,7 +106,7 @@ digits_filled [] e h = absurd (omega arith)
 digits_filled (c ∷ p) e h = let r = digit_range c (and_split (is_digit c) (every is_digit p) e).0 in rw (ne_eqb c 32 (λ q. omega arith))
 
 -- so it is read as that date
-date_trip : (d : Date) → date_rule d ≡ true → date_of (spell_date d) ≡ dated.Filled d
+date_trip : (d : Date) → date_rule d ≡ true → date_of (spell_date d) ≡ Ok (Some d)
 unfolding date_of date_reads
 date_trip d e =
     let g = and_split (eqb (length (spell_date d)) 8) (every is_digit (spell_date d)) (sym (each-replicate 8 is_digit (spell_date d)) ∙ date_spelled d) in
@@ -116,10 +114,10 @@ date_trip d e =
     rw (digits_filled (spell_date d) g.1 (omega arith), date_spelled d, date_in_trip d (date_digits d e), e)
 
 -- a date that was read keeps its rule
-abbrev KeepsRule : Dated → Type 0
-KeepsRule (dated.Bad wrong) = Unit {0}
-KeepsRule dated.Blank = Unit {0}
-KeepsRule (dated.Filled d) = date_rule d ≡ true
+abbrev KeepsRule : Result (Option Date) Flaw → Type 0
+KeepsRule (Err wrong) = Unit {0}
+KeepsRule (Ok None) = Unit {0}
+KeepsRule (Ok (Some d)) = date_rule d ≡ true
 
 date_keeps : (p : List ℕ) → KeepsRule (date_of p)
 unfolding date_of date_reads
@@ -127,55 +125,55 @@ date_keeps p =
     cond_case KeepsRule (blank p) (λ e. tt)
     (λ e. cond_case KeepsRule (each (replicate 8 is_digit) p && date_rule (date_in p)) (λ f. (and_split (each (replicate 8 is_digit) p) (date_rule (date_in p)) f).1) (λ f. tt))
 
-spaces_no_date : date_of (replicate 8 32) ≡ dated.Blank
+spaces_no_date : date_of (replicate 8 32) ≡ Ok None
 unfolding date_of skip
 spaces_no_date = refl
 
-day_wide : (v : Day) → length (spell_day v) ≡ 8
+day_wide : (v : Option Date) → length (spell_day v) ≡ 8
 unfolding spell_day spell_date
-day_wide day.Blank = refl
-day_wide (day.Filled d) = simp spelled_length
+day_wide None = refl
+day_wide (Some d) = simp spelled_length
 
 -- a date or blank
-day_kept : (v : Day) → day_fits v ≡ true → day_good (spell_day v) ≡ true
+day_kept : (v : Option Date) → day_fits v ≡ true → day_good (spell_day v) ≡ true
 unfolding day_good day_fits spell_day
-day_kept day.Blank e = rw spaces_no_date
-day_kept (day.Filled d) e = rw (date_trip d e)
+day_kept None e = rw spaces_no_date
+day_kept (Some d) e = rw (date_trip d e)
 
-day_back : (v : Day) → day_fits v ≡ true → day_of (spell_day v) ≡ v
+day_back : (v : Option Date) → day_fits v ≡ true → day_of (spell_day v) ≡ v
 unfolding day_of day_fits spell_day
-day_back day.Blank e = rw spaces_no_date
-day_back (day.Filled d) e = rw (date_trip d e)
+day_back None e = rw spaces_no_date
+day_back (Some d) e = rw (date_trip d e)
 
 day_read : (p : List ℕ) → day_good p ≡ true → day_fits (day_of p) ≡ true
 unfolding day_good day_of day_fits
 day_read p e = by (date_of p) (date_keeps p) e where
-  by : (d : Dated) → KeepsRule d → day_passes d ≡ true → day_fits (in_day d) ≡ true
-  by (dated.Bad wrong) k e = absurd (false≢true e)
-  by dated.Blank k e = refl
-  by (dated.Filled d) k e = k
+  by : (d : Result (Option Date) Flaw) → KeepsRule d → day_passes d ≡ true → day_fits (in_day d) ≡ true
+  by (Err wrong) k e = absurd (false≢true e)
+  by (Ok None) k e = refl
+  by (Ok (Some d)) k e = k
 
 pub day_column : Column 8 day_good day_of day_fits spell_day
 day_column = record { wide = λ v e. day_wide v; kept = day_kept; back = day_back; read = λ p l e. day_read p e }
 
 -- a date that may not be blank fits as one that may, and its columns say a date
-filled_fits : (v : Day) → date_fits v ≡ true → day_fits v ≡ true
+filled_fits : (v : Option Date) → date_fits v ≡ true → day_fits v ≡ true
 unfolding date_fits day_fits
-filled_fits day.Blank e = absurd (false≢true e)
-filled_fits (day.Filled d) e = e
+filled_fits None e = absurd (false≢true e)
+filled_fits (Some d) e = e
 
-date_kept : (v : Day) → date_fits v ≡ true → date_good (spell_day v) ≡ true
+date_kept : (v : Option Date) → date_fits v ≡ true → date_good (spell_day v) ≡ true
 unfolding date_good date_fits spell_day
-date_kept day.Blank e = absurd (false≢true e)
-date_kept (day.Filled d) e = rw (date_trip d e)
+date_kept None e = absurd (false≢true e)
+date_kept (Some d) e = rw (date_trip d e)
 
 date_read : (p : List ℕ) → date_good p ≡ true → date_fits (day_of p) ≡ true
 unfolding date_good day_of date_fits
 date_read p e = by (date_of p) (date_keeps p) e where
-  by : (d : Dated) → KeepsRule d → date_filled d ≡ true → date_fits (in_day d) ≡ true
-  by (dated.Bad wrong) k e = absurd (false≢true e)
-  by dated.Blank k e = absurd (false≢true e)
-  by (dated.Filled d) k e = k
+  by : (d : Result (Option Date) Flaw) → KeepsRule d → date_filled d ≡ true → date_fits (in_day d) ≡ true
+  by (Err wrong) k e = absurd (false≢true e)
+  by (Ok None) k e = absurd (false≢true e)
+  by (Ok (Some d)) k e = k
 
 pub date_column : Column 8 date_good day_of date_fits spell_day
 date_column = record { wide = λ v e. day_wide v; kept = date_kept; back = λ v e. day_back v (filled_fits v e); read = λ p l e. date_read p e }

@@ -1,5 +1,6 @@
 -- Document 01, "How columns are read": dates; of real days, as document 02, wish 2, has it.
-use Rattle.std.specs.Prelude.{ℕ, Bool, true, false, cond, ◌&&◌, List, [], take, drop, replicate, leb}
+use Rattle.std.specs.Prelude.{is_some, is_ok, ℕ, Bool, true, false, cond, ◌&&◌, List, [], take, drop, replicate, leb, Option, Some, None, Result, Ok, Err}
+use Rattle.std.specs.Result.{result_unwrap_or}
 use Rattle.columns.specs.Sets.{is_digit}
 use Rattle.columns.specs.Texts.{blank, each}
 use Rattle.flaws.specs.Flaws.{unread}
@@ -8,10 +9,6 @@ use Rattle.flaws.specs.declared.Flaw.TheVariants as flaw
 use Rattle.numerals.specs.Numbers.{number, admits_whole, spell_digits}
 use Rattle.calendar.specs.Calendar.{days_in}
 use Rattle.days.specs.declared.dates.Date.{Date}
-use Rattle.days.specs.declared.dates.Dated.{Dated}
-use Rattle.days.specs.declared.dates.Dated.TheVariants as dated
-use Rattle.days.specs.declared.dates.Day.{Day}
-use Rattle.days.specs.declared.dates.Day.TheVariants as day
 
 -- A number from low to high.
 abbrev pub within : ℕ → ℕ → ℕ → Bool
@@ -38,28 +35,22 @@ unfoldable pub unread_date : List ℕ → Flaw
 unread_date p = cond (date_reads p) flaw.Range (unread (admits_whole false) p)
 
 -- What a date's columns say.
-unfoldable pub date_of : List ℕ → Dated
+unfoldable pub date_of : List ℕ → Result (Option Date) Flaw
 date_of p =
-    cond (blank p) dated.Blank
-    (cond (date_reads p && date_rule (date_in p)) (dated.Filled (date_in p)) (dated.Bad (unread_date p)))
+    cond (blank p) (Ok None)
+    (cond (date_reads p && date_rule (date_in p)) (Ok (Some (date_in p))) (Err (unread_date p)))
 
 -- A date or blank passes.
-abbrev pub day_passes : Dated → Bool
-day_passes (dated.Bad wrong) = false
-day_passes dated.Blank = true
-day_passes (dated.Filled d) = true
+abbrev pub day_passes : Result (Option Date) Flaw → Bool
+day_passes d = is_ok d
 
 -- A date passes.
-abbrev pub date_filled : Dated → Bool
-date_filled (dated.Bad wrong) = false
-date_filled dated.Blank = false
-date_filled (dated.Filled d) = true
+abbrev pub date_filled : Result (Option Date) Flaw → Bool
+date_filled d = is_some (result_unwrap_or d None)
 
 -- The answer as a typed value; what cannot be read is never taken for one.
-abbrev pub in_day : Dated → Day
-in_day (dated.Bad wrong) = day.Blank
-in_day dated.Blank = day.Blank
-in_day (dated.Filled d) = day.Filled d
+abbrev pub in_day : Result (Option Date) Flaw → Option Date
+in_day d = result_unwrap_or d None
 
 -- The spelling of a date.
 unfoldable pub spell_date : Date → List ℕ
@@ -70,24 +61,24 @@ unfoldable pub day_good : List ℕ → Bool
 day_good p = day_passes (date_of p)
 
 -- the value that they say,
-unfoldable pub day_of : List ℕ → Day
+unfoldable pub day_of : List ℕ → Option Date
 day_of p = in_day (date_of p)
 
 -- the rule on a typed value,
-unfoldable pub day_fits : Day → Bool
-day_fits day.Blank = true
-day_fits (day.Filled d) = date_rule d
+unfoldable pub day_fits : Option Date → Bool
+day_fits None = true
+day_fits (Some d) = date_rule d
 
 -- and its spelling.
-unfoldable pub spell_day : Day → List ℕ
-spell_day day.Blank = replicate 8 32
-spell_day (day.Filled d) = spell_date d
+unfoldable pub spell_day : Option Date → List ℕ
+spell_day None = replicate 8 32
+spell_day (Some d) = spell_date d
 
 -- The header's date, which may not be blank: the rule on the columns,
 unfoldable pub date_good : List ℕ → Bool
 date_good p = date_filled (date_of p)
 
 -- and the rule on a typed value.
-unfoldable pub date_fits : Day → Bool
-date_fits day.Blank = false
-date_fits (day.Filled d) = date_rule d
+unfoldable pub date_fits : Option Date → Bool
+date_fits None = false
+date_fits (Some d) = date_rule d

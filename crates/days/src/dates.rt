@@ -19,21 +19,6 @@ pub struct Date {
     pub year: u16,
 }
 
-// A date, read from its columns, or what is wrong with them.
-#[derive(Clone, Copy)]
-pub enum Dated {
-    Bad(Flaw),
-    Blank,
-    Filled(Date),
-}
-
-// A date that may be left out.
-#[derive(Clone, Copy)]
-pub enum Day {
-    Blank,
-    Filled(Date),
-}
-
 // Whether a number is from low to high.
 fn is_within(low: u16, high: u16, n: u16) -> bool
     ensures { result ≡ within low high n }
@@ -78,24 +63,24 @@ fn date_in(s: &[u8]) -> Date
     }
 }
 
-// A date, or blank.
-pub fn read_date(s: &[u8]) -> Dated
+// A date, or blank; or what is wrong with the columns.
+pub fn read_date(s: &[u8]) -> Result<Option<Date>, Flaw>
     ensures { result ≡ date_of s.now }
 {
     if is_blank(s) {
-        return Dated::Blank;
+        return Ok(None);
     }
     if s.len() != 8 {
-        return Dated::Bad(unread_of(b"0123456789 ", s));
+        return Err(unread_of(b"0123456789 ", s));
     }
     if !all_in(Set::Digit, s) {
-        return Dated::Bad(unread_of(b"0123456789 ", s));
+        return Err(unread_of(b"0123456789 ", s));
     }
     let d = date_in(s);
     if is_date(d) {
-        Dated::Filled(d)
+        Ok(Some(d))
     } else {
-        Dated::Bad(Flaw::Range)
+        Err(Flaw::Range)
     }
 }
 
@@ -103,30 +88,22 @@ pub fn read_date(s: &[u8]) -> Dated
 pub fn is_day(s: &[u8]) -> bool
     ensures { result ≡ day_good s.now }
 {
-    match read_date(s) {
-        Dated::Bad(_) => false,
-        Dated::Blank => true,
-        Dated::Filled(_) => true,
-    }
+    read_date(s).is_ok()
 }
 
 // The date that is there, blank where there is none.
-pub fn day_in(s: &[u8]) -> Day
+pub fn day_in(s: &[u8]) -> Option<Date>
     ensures { result ≡ day_of s.now }
 {
-    match read_date(s) {
-        Dated::Bad(_) => Day::Blank,
-        Dated::Blank => Day::Blank,
-        Dated::Filled(d) => Day::Filled(d),
-    }
+    read_date(s).unwrap_or(None)
 }
 
 // Whether a date or its absence can stand.
-pub fn fits_day(v: Day) -> bool
+pub fn fits_day(v: Option<Date>) -> bool
     ensures { result ≡ day_fits v }
 {
     match v {
-        Day::Blank => true,
-        Day::Filled(d) => is_date(d),
+        None => true,
+        Some(d) => is_date(d),
     }
 }

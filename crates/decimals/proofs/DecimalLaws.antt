@@ -11,9 +11,10 @@ use Rattle.columns.specs.Sets.{is}
 use Rattle.columns.specs.Texts.{head, tail, ended, skip}
 use Rattle.numerals.specs.Numbers.{leading, number, number_from, amount}
 use Rattle.decimals.specs.Decimals.{fraction_of, magnitude_of}
-use Rattle.numerals.specs.declared.Whole.{Whole}
 use Rattle.columns.proofs.TextLaws.{cond_case}
 use Rattle.numerals.proofs.NumberLaws.{leading_few, leading_digits, front_below, number_below}
+use Rattle.std.specs.Prelude.{Option, Result}
+use Rattle.numerals.specs.declared.Unread.{Unread}
 
 -- a number of p digits with q zeros behind it has p + q digits
 below_scaled : (x p q : ℕ) → x < 10 ^ p → x * 10 ^ q < 10 ^ (p + q)
@@ -26,7 +27,7 @@ fraction_below a b v t h =
     let l = leading b t in
     let f : length l ≤ b = leading_few b t in
     let e : a + length l + (b - length l) ≡ a + b = omega arith in
-    cond_case (λ (w : Whole). amount w < 10 ^ (a + b)) (not (ended l) && ended (skip (drop (length l) t)))
+    cond_case (λ (w : Result (Option ℕ) Unread). amount w < 10 ^ (a + b)) (not (ended l) && ended (skip (drop (length l) t)))
     (λ q. rw e at (below_scaled (number_from v l) (a + length l) (b - length l) (number_below v a l (leading_digits b t) h)))
     (λ q. one-le-pow (a + b) 10 (omega arith))
 
@@ -35,7 +36,7 @@ pub magnitude_below : (a b : ℕ) (t : List ℕ) → amount (magnitude_of a b t)
 unfolding magnitude_of
 magnitude_below a b t =
     let point = drop (length (leading a t)) t in
-    cond_case (λ (w : Whole). amount w < 10 ^ (a + b)) (is "." (head point))
+    cond_case (λ (w : Result (Option ℕ) Unread). amount w < 10 ^ (a + b)) (is "." (head point))
     (λ q. fraction_below a b (number (leading a t)) (tail point) (front_below a t))
     (λ q. one-le-pow (a + b) 10 (omega arith))
 

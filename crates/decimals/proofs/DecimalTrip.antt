@@ -12,13 +12,12 @@ use lib.IntN.{ℤ, pos, negsuc, nat_abs}
 use Rattle.columns.specs.Texts.{head, ended, skip, every}
 use Rattle.numerals.specs.Numbers.{leading, number_from, number, spell_digits, is_negative}
 use Rattle.decimals.specs.Decimals.{fraction_of, magnitude_of, admits_decimal, decimal_of, spell_magnitude, spell_decimal, decimal_width}
-use Rattle.numerals.specs.declared.Whole.TheVariants as whole
-use Rattle.numerals.specs.declared.Signed.TheVariants as signed
 use Rattle.numerals.proofs.NumberLaws.{leading_all}
 use Rattle.numerals.proofs.RoundTrip.{begins_high, front, minus_trip, not-ended, plain_trip, spelled_digits, spelled_front, spelled_length, spelled_number, spelled_says}
+use Rattle.std.specs.Prelude.{Some, Ok}
 
 -- decimals: the magnitude
-magnitude_trip : (a b m : ℕ) → 1 ≤ b → m < 10 ^ (a + b) → magnitude_of a b (spell_magnitude a b m) ≡ whole.Filled m
+magnitude_trip : (a b m : ℕ) → 1 ≤ b → m < 10 ^ (a + b) → magnitude_of a b (spell_magnitude a b m) ≡ Ok (Some m)
 unfolding magnitude_of fraction_of spell_magnitude skip
 magnitude_trip a b m one h =
     let hi = m / 10 ^ b in
@@ -42,7 +41,7 @@ magnitude_begins (suc a) b m =
     (not-ended (suc a) (m / 10 ^ b) t (omega arith), omega (arith, begins_high (suc a) (m / 10 ^ b) t (omega arith)))
 
 -- the theorem: what is written of a number in range is read as that number
-pub decimal_trip : (a b : ℕ) (sign : Bool) (z : ℤ) → 1 ≤ b → nat_abs z < 10 ^ (a + b) → (is_negative z ≡ true → sign ≡ true) → decimal_of a b sign (spell_decimal a b sign z) ≡ signed.Filled z
+pub decimal_trip : (a b : ℕ) (sign : Bool) (z : ℤ) → 1 ≤ b → nat_abs z < 10 ^ (a + b) → (is_negative z ≡ true → sign ≡ true) → decimal_of a b sign (spell_decimal a b sign z) ≡ Ok (Some z)
 unfolding decimal_of spell_decimal skip
 decimal_trip a b true (pos n) one h s = let g = magnitude_begins a b n in plain_trip true (admits_decimal true) (magnitude_of a b) (32 ∷ spell_magnitude a b n) (spell_magnitude a b n) n refl g.0 g.1 (magnitude_trip a b n one h)
 decimal_trip a b true (negsuc n) one h s = minus_trip (admits_decimal true) (magnitude_of a b) (spell_magnitude a b (suc n)) (suc n) (magnitude_trip a b (suc n) one h)

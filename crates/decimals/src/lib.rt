@@ -6,52 +6,44 @@ ghost use Rattle.decimals.specs.Decimals.{fraction_of, magnitude_of, spell_magni
 
 use columns::texts::{byte, is_blank_stepwise};
 use numeral_writing::{is_negative, magnitude, put_digits};
-use numerals::{Whole, digits};
+use numerals::{Unread, digits};
 
 // v with k zeros behind it.
 fn scaled(v: u64, k: usize) -> u64
     requires { (k ≤ 18) × (v < 10 ^ (18 - k)) }
     ensures { result ≡ v * 10 ^ k }
 {
-    let mut r = v;
-    let mut left = k;
-    while 0 < left {
-        left -= 1;
-        r = r * 10;
-    }
-    r
+    v * 10u64.pow(k as u32)
 }
 
 // Behind the point: 1 to b digits and spaces, read onto v.
-fn fraction_of(t: &[u8], b: usize, v: u64) -> Whole
+fn fraction_of(t: &[u8], b: usize, v: u64) -> Result<Option<u64>, Unread>
     requires { (b ≤ 18) × (v < 10 ^ (18 - b)) }
     ensures { result ≡ fraction_of b v t.now }
 {
     let f = digits(t, b, v);
     let n = f.count;
-    let m = f.value;
     if n == 0 {
-        return Whole::Bad;
+        return Err(Unread);
     }
     if !is_blank_stepwise(&t[n..]) {
-        return Whole::Bad;
+        return Err(Unread);
     }
-    Whole::Filled(scaled(m, b - n))
+    Ok(Some(scaled(f.value, b - n)))
 }
 
 // Up to a digits, a point, and what stands behind it.
-pub fn magnitude_of(t: &[u8], a: usize, b: usize) -> Whole
+pub fn magnitude_of(t: &[u8], a: usize, b: usize) -> Result<Option<u64>, Unread>
     requires { a + b ≤ 18 }
     ensures { result ≡ magnitude_of a b t.now }
 {
     let w = digits(t, a, 0);
     let p = w.count;
-    let v = w.value;
     if byte(t, p) != b'.' {
-        return Whole::Bad;
+        return Err(Unread);
     }
     let q = p + 1;
-    fraction_of(&t[q..], b, v)
+    fraction_of(&t[q..], b, w.value)
 }
 
 // Writes digits, a point and digits, from o to the end.

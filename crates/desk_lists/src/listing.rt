@@ -2,6 +2,7 @@
 ghost use Rattle.desk_lists.specs.Promises.{RecordLineOut, LineRecordIn};
 
 use answers::answer;
+use basics::outcomes::ended;
 use lines_in::line_to_record;
 use lines_out::record_to_line;
 
@@ -16,9 +17,8 @@ pub extern "C" fn desk_list_out(
     ensures { RecordLineOut rec.now line.old result line.new length.new code.new }
 {
     let written = record_to_line(rec, line);
-    let outcome = written.outcome;
-    *length = written.length;
-    answer(outcome, code)
+    *length = written.unwrap_or(0);
+    answer(ended(written), code)
 }
 
 // Writes the station of a line as a record into the lent bytes: 7, 10, 11, 9 with its code, or 0.

@@ -11,8 +11,6 @@ pub extern "C" fn desk_line_kind(line: &[u8], code: &mut u8, kind: &mut u8) -> u
     ensures { LineKindTold line.now result code.new kind.new }
 {
     let told = explain_line(line);
-    let outcome = told.outcome;
-    let flaw = told.flaw;
-    *kind = flaw_number(flaw);
-    answer(outcome, code)
+    *kind = flaw_number(told.flaw);
+    answer(told.outcome, code)
 }

@@ -5,7 +5,7 @@
 ghost use Rattle.std.specs.Prelude.{◌≡◌, cond};
 ghost use Rattle.desk_locating.specs.Promises.{FieldLocated, NumberLocated, MarksTold, LongFieldTold};
 
-use basics::outcomes::{is_done, refusal_number};
+use basics::outcomes::refusal_number;
 use faults::long_fields::long_field;
 use faults::marking::{has_marks, line_marks};
 use places::field_place;
@@ -24,7 +24,7 @@ pub extern "C" fn desk_show(
     ensures { FieldLocated file.now number field result offset.new length.new }
 {
     let outcome = show_outcome(file, number, field);
-    if !is_done(outcome) {
+    if outcome.is_err() {
         *offset = 0;
         *length = 0;
         return refusal_number(outcome);

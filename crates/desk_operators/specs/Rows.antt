@@ -1,8 +1,6 @@
 -- Rows of a page in fixed places of bytes, as callers in C get them; a number has its high byte first, as in a sheet.
-use Rattle.std.specs.Prelude.{ℕ, List, ◌++◌, replicate}
+use Rattle.std.specs.Prelude.{ℕ, List, ◌++◌, replicate, Option, Some, None}
 use Rattle.forms.specs.Forms.{number}
-use Rattle.hundredths.specs.declared.Hundredths.{Hundredths}
-use Rattle.hundredths.specs.declared.Hundredths.TheVariants as hundredths
 use Rattle.operator_pages.specs.declared.OperatorRow.{OperatorRow}
 
 -- A row has twenty-two bytes.
@@ -10,9 +8,9 @@ abbrev pub operator_width : ℕ
 operator_width = 22
 
 -- A frequency in hundredths of a hertz: a number of eight bytes, or spaces where there is none.
-unfoldable pub spell_hundredths : Hundredths → List ℕ
-spell_hundredths hundredths.Blank = replicate 8 32
-spell_hundredths (hundredths.Filled v) = number 8 v
+unfoldable pub spell_hundredths : Option ℕ → List ℕ
+spell_hundredths None = replicate 8 32
+spell_hundredths (Some v) = number 8 v
 
 -- Bytes 1-2 the operator's code, 3-4 its stations, 5-6 those with a transmit frequency,
 unfoldable pub spell_head : List ℕ → ℕ → ℕ → List ℕ

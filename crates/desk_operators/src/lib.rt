@@ -9,10 +9,9 @@ ghost use Rattle.operator_pages.specs.Pages.{rows_below, tally_in};
 ghost use Rattle.desk_operators.specs.Rows.{operator_width, spell_hundredths, spell_head, spell_row};
 ghost use Rattle.desk_operators.specs.Promises.{spelled_rows, RowsPut, OperatorsTold};
 
-use basics::Outcome;
-use basics::outcomes::{is_done, refusal_number};
+use basics::Refusal;
+use basics::outcomes::refusal_number;
 use files::lengths::{check_file, stations_in};
-use hundredths::Hundredths;
 use operator_counts::{OPERATORS, Tally, tallies};
 use operator_pages::{OperatorRow, PageAnswer, operator_row, operators_in};
 use printing::pieces::put_text;
@@ -50,12 +49,12 @@ fn frequency_bytes(v: u64) -> [u8; 8]
 }
 
 // The eight bytes of a frequency that there may be: spaces where there is none.
-fn hundredths_bytes(a: Hundredths) -> [u8; 8]
+fn hundredths_bytes(a: Option<u64>) -> [u8; 8]
     ensures { result ≡ spell_hundredths a }
 {
     match a {
-        Hundredths::Blank => [32; 8],
-        Hundredths::Filled(v) => frequency_bytes(v),
+        None => [32; 8],
+        Some(v) => frequency_bytes(v),
     }
 }
 
@@ -94,14 +93,11 @@ fn put_rows(out: &mut [u8], counts: [Tally; OPERATORS]) -> usize
     requires { operator_width * length (rows_below (tally_in counts) operators) ≤ length out.old }
     ensures { Appended out.old 0 (spelled_rows (rows_below (tally_in counts) operators)) out.new result }
 {
-    let mut end: usize = 0;
-    let mut c: usize = 0;
-    while c < OPERATORS {
+    let mut end = 0;
+    for c in 0..OPERATORS {
         let tally = counts[c];
-        let row = operator_row(c, tally);
-        c = c + 1;
         if tally.stations != 0 {
-            end = put_row(out, end, row);
+            end = put_row(out, end, operator_row(c, tally));
         }
     }
     end
@@ -112,20 +108,20 @@ fn put_page_bytes(file: &[u8], out: &mut [u8]) -> PageAnswer
     ensures { RowsPut file.now out.old result out.new }
 {
     let outcome = check_file(file);
-    if !is_done(outcome) {
+    if outcome.is_err() {
         return PageAnswer { outcome, rows: 0 };
     }
     let counts = tallies(file, stations_in(file));
     let found = operators_in(counts);
     if out.len() / OPERATOR_WIDTH < found {
         return PageAnswer {
-            outcome: Outcome::TooFewRows,
+            outcome: Err(Refusal::TooFewRows),
             rows: 0,
         };
     }
     put_rows(out, counts);
     PageAnswer {
-        outcome: Outcome::Done,
+        outcome: Ok(()),
         rows: found,
     }
 }

@@ -1,8 +1,8 @@
 -- A value that is stated in numbers, set on a record.
+use Rattle.basics.specs.Outcomes.{Outcome}
 use mathlib.Core.Path.{◌≡◌, ap, subst, ◌∙◌}
 use mathlib.Core.List.{List}
 use Prim.Native.Nat.{ℕ}
-use Rattle.basics.specs.declared.Outcome.{Outcome}
 use Rattle.station.specs.declared.Station.{Station}
 use Rattle.changing.specs.Promises.{RecordChanged}
 

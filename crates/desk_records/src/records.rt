@@ -25,10 +25,8 @@ pub extern "C" fn desk_station_kind(rec: &[u8], code: &mut u8, kind: &mut u8) ->
     ensures { StationKindTold rec.now result code.new kind.new }
 {
     let told = explain_station(rec);
-    let outcome = told.outcome;
-    let flaw = told.flaw;
-    *kind = flaw_number(flaw);
-    answer(outcome, code)
+    *kind = flaw_number(told.flaw);
+    answer(told.outcome, code)
 }
 
 // Whether a header's record can be read: 6, 9 with its code, or 0.

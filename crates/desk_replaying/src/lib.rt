@@ -19,9 +19,8 @@ pub extern "C" fn desk_replay(
     ensures { FilingReplayed file.old sheet.old trace.now result accepted.new refused.new stopped.new file.new sheet.new }
 {
     let replayed = replay(file, sheet, trace);
-    let outcome = replayed.outcome;
     *accepted = replayed.accepted;
     *refused = replayed.refused;
     *stopped = replayed.stopped;
-    refusal_number(outcome)
+    refusal_number(replayed.outcome)
 }

@@ -13,8 +13,6 @@ pub extern "C" fn desk_station_second(rec: &[u8], code: &mut u8, kind: &mut u8) 
     ensures { StationSecondTold rec.now result code.new kind.new }
 {
     let told = explain_second(rec);
-    let outcome = told.outcome;
-    let flaw = told.flaw;
-    *kind = flaw_number(flaw);
-    answer(outcome, code)
+    *kind = flaw_number(told.flaw);
+    answer(told.outcome, code)
 }

@@ -2,7 +2,7 @@
 ghost use Rattle.replacing.specs.Promises.{StillJudged};
 ghost use Rattle.desk_sheets.specs.Promises.{FindingTold, FilingJudged, FilingReplaced, FilingVerified};
 
-use basics::outcomes::refusal_number;
+use basics::outcomes::{ended, refusal_number};
 use replacing::records::replace;
 use sheet_judging::judge;
 use verifying::verifying::{Finding, verify};
@@ -28,9 +28,8 @@ pub extern "C" fn desk_replace(
     ensures still_judged { StillJudged file.old sheet.old file.new sheet.new }
 {
     let replaced = replace(file, sheet, number, rec);
-    let outcome = replaced.outcome;
-    *rows = replaced.rows;
-    refusal_number(outcome)
+    *rows = replaced.unwrap_or(0);
+    refusal_number(ended(replaced))
 }
 
 // What was found, as numbers: 0 and 0 for nothing, 1 and 0 for right, 2 and the offset for wrong.
@@ -59,8 +58,6 @@ pub extern "C" fn desk_verify(file: &[u8], sheet: &[u8], found: &mut u8, offset:
     ensures { FilingVerified file.now sheet.now result found.new offset.new }
 {
     let verified = verify(file, sheet);
-    let outcome = verified.outcome;
-    let finding = verified.finding;
-    *found = told_finding(finding, offset);
-    refusal_number(outcome)
+    *found = told_finding(verified.finding, offset);
+    refusal_number(verified.outcome)
 }

@@ -7,7 +7,7 @@ ghost use Rattle.distances.specs.Distances.{radius_of, radius_fits, spell_radius
 
 use columns::texts::write_blank;
 use numeral_writing::{fits_signed, fits_whole, is_negative, magnitude, put_signed, put_whole};
-use numerals::{Signed, amount_of, read_whole, says_number};
+use numerals::{amount_of, read_whole, says_number};
 use signed_numerals::read_signed;
 
 // A radius, 4D.
@@ -17,13 +17,6 @@ pub struct Kilometres(pub u64);
 // A height above sea, 4Z, or above ground, 9Y.
 #[derive(Clone, Copy)]
 pub struct Metres(pub i64);
-
-// A height that may be left out, 4Z.
-#[derive(Clone, Copy)]
-pub enum Height {
-    Blank,
-    Filled(Metres),
-}
 
 // The rule on the columns of 4D and 9Y: a whole number is there.
 pub fn is_whole_filled(s: &[u8]) -> bool
@@ -85,40 +78,37 @@ pub fn is_height(s: &[u8]) -> bool
     ensures { result ≡ height_good s.now }
 {
     match read_signed(s) {
-        Signed::Bad(_) => false,
-        Signed::Blank => true,
-        Signed::Filled(z) => fits_signed(4, z),
+        Ok(Some(z)) => fits_signed(4, z),
+        Ok(None) => true,
+        Err(_) => false,
     }
 }
 
 // The height above sea that its columns say.
-pub fn read_height(s: &[u8]) -> Height
+pub fn read_height(s: &[u8]) -> Option<Metres>
     ensures { result ≡ height_of s.now }
 {
-    match read_signed(s) {
-        Signed::Bad(_) => Height::Blank,
-        Signed::Blank => Height::Blank,
-        Signed::Filled(z) => Height::Filled(Metres(z)),
-    }
+    let z = read_signed(s).unwrap_or(None)?;
+    Some(Metres(z))
 }
 
 // Whether a height above sea or its absence can stand.
-pub fn fits_height(v: Height) -> bool
+pub fn fits_height(v: Option<Metres>) -> bool
     ensures { result ≡ height_fits v }
 {
     match v {
-        Height::Blank => true,
-        Height::Filled(m) => fits_signed(4, m.0),
+        None => true,
+        Some(m) => fits_signed(4, m.0),
     }
 }
 
 // Writes a height above sea, or blank, in its four columns.
-pub fn put_height(s: &mut [u8], v: Height)
+pub fn put_height(s: &mut [u8], v: Option<Metres>)
     requires { length s.old ≡ 4 }
     ensures { s.new ≡ spell_height v }
 {
     match v {
-        Height::Blank => write_blank(s),
-        Height::Filled(m) => put_signed(s, m.0),
+        None => write_blank(s),
+        Some(m) => put_signed(s, m.0),
     }
 }

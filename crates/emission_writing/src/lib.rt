@@ -16,10 +16,8 @@ fn put_direction(g: Emission, s: &mut [u8])
     requires { length s.old ≡ 10 }
     ensures { s.new ≡ joined (drop 3 (emission_pieces g)) }
 {
-    let azimuth = g.azimuth;
-    put_tenths(Format::Azimuth, &mut s[0..5], azimuth);
-    let elevation = g.elevation;
-    put_tenths(Format::Elevation, &mut s[5..10], elevation);
+    put_tenths(Format::Azimuth, &mut s[0..5], g.azimuth);
+    put_tenths(Format::Elevation, &mut s[5..10], g.elevation);
 }
 
 // 7A, 8B1, 8B2 and the direction, columns 76 to 101.
@@ -27,10 +25,8 @@ pub fn put_emission(g: Emission, s: &mut [u8])
     requires { length s.old ≡ 26 }
     ensures { s.new ≡ joined (emission_pieces g) }
 {
-    let designation = g.designation;
-    write_text(&mut s[0..9], &designation);
-    let power = g.power;
-    put_tenths(Format::Power, &mut s[9..15], power);
+    write_text(&mut s[0..9], &g.designation);
+    put_tenths(Format::Power, &mut s[9..15], g.power);
     write_byte(&mut s[15..16], g.basis);
     put_direction(g, &mut s[16..26]);
 }
@@ -40,10 +36,8 @@ fn put_types(g: Antenna, s: &mut [u8])
     requires { length s.old ≡ 14 }
     ensures { s.new ≡ joined (drop 3 (antenna_pieces g)) }
 {
-    let horizontal = g.horizontal;
-    write_text(&mut s[0..7], &horizontal);
-    let vertical = g.vertical;
-    write_text(&mut s[7..14], &vertical);
+    write_text(&mut s[0..7], &g.horizontal);
+    write_text(&mut s[7..14], &g.vertical);
 }
 
 // 9D, 9G, 9Y and the types, columns 102 to 125.
@@ -51,11 +45,8 @@ pub fn put_antenna(g: Antenna, s: &mut [u8])
     requires { length s.old ≡ 24 }
     ensures { s.new ≡ joined (antenna_pieces g) }
 {
-    let polarisation = g.polarisation;
-    write_text(&mut s[0..2], &polarisation);
-    let gain = g.gain;
-    put_tenths(Format::Gain, &mut s[2..6], gain);
-    let ground = g.ground;
-    put_ground(&mut s[6..10], ground);
+    write_text(&mut s[0..2], &g.polarisation);
+    put_tenths(Format::Gain, &mut s[2..6], g.gain);
+    put_ground(&mut s[6..10], g.ground);
     put_types(g, &mut s[10..24]);
 }

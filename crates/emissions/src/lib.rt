@@ -1,7 +1,7 @@
 // The designation of an emission, 7A: four places of bandwidth, then one symbol a place.
 #![tactic(auto)]
 
-ghost use Rattle.std.specs.Prelude.{◌≡◌, cond};
+ghost use Rattle.std.specs.Prelude.{◌≡◌};
 ghost use Rattle.columns.specs.Sets.{is_digit, among};
 ghost use Rattle.columns.specs.Texts.{how_many};
 ghost use Rattle.emissions.specs.Emission.{is_modulation, is_signal, is_information, is_detail, is_multiplex, detail_good, bandwidth_good, emission_good};
@@ -78,45 +78,18 @@ fn is_late(c: u8) -> bool
     }
 }
 
-// A place of the bandwidth that holds a letter, or a digit where no letter is asked for.
-fn holds(letter: bool, c: u8) -> bool
-    ensures { result ≡ cond letter (among "HKMG" c) (is_digit c) }
-{
-    if letter {
-        is_bandwidth_letter(c)
-    } else {
-        is_digit(c)
-    }
-}
-
-// How many places hold a letter, or a digit where no letter is asked for.
-fn holding(letter: bool, s: &[u8]) -> usize
-    ensures { result ≡ how_many (λ c. cond letter (among "HKMG" c) (is_digit c)) s.now }
-{
-    let mut count = 0;
-    let mut i = 0;
-    while i < s.len() {
-        let c = s[i];
-        i += 1;
-        if holds(letter, c) {
-            count += 1;
-        }
-    }
-    count
-}
-
 // How many places hold a digit.
 fn digits(s: &[u8]) -> usize
     ensures { result ≡ how_many is_digit s.now }
 {
-    holding(false, s)
+    s.iter().filter(|c| is_digit(**c)).count()
 }
 
 // How many places hold a letter.
 fn letters(s: &[u8]) -> usize
     ensures { result ≡ how_many (among "HKMG") s.now }
 {
-    holding(true, s)
+    s.iter().filter(|c| is_bandwidth_letter(**c)).count()
 }
 
 // The bandwidth: three digits and one letter, which says the decimal point's place and the unit.

@@ -3,13 +3,9 @@
 
 ghost use Rattle.empties.specs.Promises.{HeaderEmpty, StationEmpty};
 
-use days::dates::Day;
-use distances::{Height, Kilometres, Metres};
-use formats::Tenths;
-use frequencies::Frequency;
+use distances::{Kilometres, Metres};
 use header::Header;
 use positions::Position;
-use serials::Serial;
 use station::Station;
 use station_groups::{Antenna, Channel, Coordination, Emission, Site};
 
@@ -26,9 +22,9 @@ pub fn empty_header() -> Header
         telephone: [b' '; 20],
         person: [b' '; 20],
         count: 0,
-        date: Day::Blank,
+        date: None,
         destination: [b' '; 3],
-        serial: Serial::Blank,
+        serial: None,
         version: [b' '; 3],
         reserve: [b' '; 7],
     }
@@ -40,7 +36,7 @@ pub fn empty_station() -> Station
 {
     Station {
         channel: Channel {
-            transmit: Frequency::Blank,
+            transmit: None,
             category: b'1',
             class: [b'F', b'B'],
             service: [b'C', b'O'],
@@ -48,33 +44,33 @@ pub fn empty_station() -> Station
             carrier: b'0',
         },
         site: Site {
-            started: Day::Blank,
+            started: None,
             name: [b' '; 20],
             country: [b' '; 3],
             position: Position { east: 0, north: 0 },
             radius: Kilometres(0),
-            height: Height::Blank,
+            height: None,
         },
         emission: Emission {
             designation: [b' '; 9],
-            power: Tenths::Blank,
+            power: None,
             basis: b'E',
-            azimuth: Tenths::Blank,
-            elevation: Tenths::Blank,
+            azimuth: None,
+            elevation: None,
         },
         antenna: Antenna {
             polarisation: [b'H', b' '],
-            gain: Tenths::Blank,
+            gain: None,
             ground: Metres(0),
             horizontal: [b' '; 7],
             vertical: [b' '; 7],
         },
         coordination: Coordination {
-            receive: Frequency::Blank,
+            receive: None,
             remarks: [b' '; 50],
             status: b'F',
-            requested: Day::Blank,
-            coordinated: Day::Blank,
+            requested: None,
+            coordinated: None,
             reference: [b' '; 15],
         },
     }

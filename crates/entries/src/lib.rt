@@ -28,29 +28,19 @@ fn one_byte(n: usize, admitted: bool) -> Flaw
     Flaw::Shape
 }
 
-// Whether a byte is from the lowest to the highest.
+// Whether a byte is from the lowest to the highest; these are a table's numbers, which columns::sets::is_between, of bytes, doesn't take.
 fn is_between(low: usize, high: usize, c: u8) -> bool
     ensures { result ≡ leb low c && leb c high }
 {
-    let n = c as usize;
-    if n < low {
-        return false;
-    }
-    n <= high
+    let n = usize::from(c);
+    (low <= n) & (n <= high)
 }
 
 // Whether every byte of a text is.
 fn all_between(low: usize, high: usize, s: &[u8]) -> bool
     ensures { result ≡ every (λ c. leb low c && leb c high) s.now }
 {
-    let mut i = 0;
-    while i < s.len() {
-        if !is_between(low, high, s[i]) {
-            return false;
-        }
-        i += 1;
-    }
-    true
+    s.iter().all(|c| is_between(low, high, *c))
 }
 
 // A byte from the lowest to the highest.

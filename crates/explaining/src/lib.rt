@@ -13,7 +13,7 @@ ghost use Rattle.explained_rows.specs.Rows.{row_explained};
 ghost use Rattle.explaining.specs.Explanations.{sheet_explained};
 ghost use Rattle.explaining.specs.Promises.{ExplanationWritten};
 
-use basics::outcomes::{is_done, refusal_number};
+use basics::outcomes::refusal_number;
 use explained_rows::put_row;
 use files::lengths::{check_file, stations_in};
 use forms::form::{ROW_WIDTH, TRAILER_LENGTH};
@@ -29,10 +29,8 @@ fn put_rows(out: &mut [u8], start: usize, file: &[u8], sheet: &[u8], n: usize) -
     ensures upper_bound { result ≤ start + 138 * n }
 {
     let mut end = start;
-    let mut i = 0;
-    while i < n {
+    for i in 0..n {
         end = put_row(out, end, file, sheet, i);
-        i += 1;
     }
     end
 }
@@ -81,7 +79,7 @@ pub fn write_explanation(file: &[u8], out: &mut [u8; 41984]) -> usize
     ensures { ExplanationWritten file.now out.old result out.new }
 {
     let outcome = check_file(file);
-    if !is_done(outcome) {
+    if outcome.is_err() {
         return put_refused(out, 0, refusal_number(outcome));
     }
     put_file(out, file)

@@ -1,4 +1,5 @@
 -- What the calls tell of a line, and how the line is refused.
+use Rattle.std.specs.Prelude.{Ok, Err}
 use mathlib.Core.Path.{◌≡◌, refl, sym, ◌∙◌}
 use mathlib.Core.Bool.{Bool, true, false, not, cond, ◌&&◌}
 use mathlib.Core.List.{List, [], ◌∷◌}
@@ -9,7 +10,7 @@ use lib.ListN.{length, get_or}
 use borrow.Author.Tests.{leb-false, eqb-false, ne_eqb, lt-ltb}
 use Rattle.basics.specs.Fields.{at, place_of}
 use Rattle.basics.specs.Outcomes.{refusal, first_refusal}
-use Rattle.basics.specs.declared.Outcome.TheVariants as outcome
+use Rattle.basics.specs.declared.Refusal.TheVariants as why
 use Rattle.station.specs.Places.{station_places}
 use Rattle.station.specs.Codes.{station_code}
 use Rattle.semicolons.specs.Fields.{none_longer}
@@ -31,7 +32,7 @@ none_longer_lem k (q ∷ qs) (p ∷ ps) = by (leb (length p) q.1) (none_longer_l
     by false e = sym (ne_eqb (suc k) 0 (λ z. omega (arith, z)))
 
 -- the numbers of a reading's three tests
-numbers : (a b z : Bool) (c : ℕ) → refusal (cond (not a) outcome.NotALine (cond (not b) outcome.FieldTooLong (cond (not z) (outcome.RuleBroken c) outcome.Done))) ≡ cond a (cond b (cond z 0 9) 11) 10
+numbers : (a b z : Bool) (c : ℕ) → refusal (cond (not a) (Err why.NotALine) (cond (not b) (Err why.FieldTooLong) (cond (not z) (Err (why.RuleBroken c)) (Ok tt)))) ≡ cond a (cond b (cond z 0 9) 11) 10
 unfolding refusal
 numbers true true true c = refl
 numbers true true false c = refl

@@ -5,18 +5,14 @@ ghost use Rattle.faults.specs.Faults.{has_marks};
 ghost use Rattle.faults.specs.Promises.{LineMarked};
 
 use crate::Marks;
-use columns::texts::byte;
+use splitting::lines::last_byte;
 use splitting::marks::count;
 
 // Whether a text ends in a line feed.
 fn ends_in_feed(line: &[u8]) -> bool
     ensures { result ≡ is_feed (last_byte line.now) }
 {
-    let n = line.len();
-    if n == 0 {
-        return false;
-    }
-    byte(line, n - 1) == 10
+    last_byte(line) == 10
 }
 
 // The marks that a text has.

@@ -1,12 +1,11 @@
 -- Document 01, "Station rules, by code" and "Header codes": the kinds of field, and what each means, said once for all fields of the kind.
-use Rattle.std.specs.Prelude.{ℕ, suc, ◌-◌, Bool, true, false, not, ◌&&◌, List, [], ◌∷◌, replicate, ℤ, pos}
+use Rattle.std.specs.Prelude.{ℕ, suc, ◌-◌, Bool, true, false, not, ◌&&◌, List, [], ◌∷◌, replicate, ℤ, pos, Option, None}
 use Prim.Native.Char.{Char, code}
 use Prim.Native.String.{String}
 use Rattle.columns.specs.Texts.{bytes, head, blank, trimmed, every, each, byte_good, same, one_of, sized, text_good}
 use Rattle.numerals.specs.Numbers.{whole_of, whole_filled, whole_fits, spell_whole}
 use Rattle.numerals.specs.Numbers as numbers
 use Rattle.days.specs.Dates.{date_good, date_fits, day_good, day_of, day_fits, spell_day}
-use Rattle.days.specs.declared.dates.Day.TheVariants as days
 use Rattle.basics.specs.Fields.{at}
 use Rattle.frequencies.specs.Frequencies.{above_zero, amount_good, unit_good, frequency_of, frequency_fits, spell_amount, spell_unit}
 use Rattle.formats.specs.Tenths.{any_number, tenths_good, tenths_of, tenths_fit, spell_tenths}
@@ -16,10 +15,6 @@ use Rattle.emissions.specs.Emission.{emission_good}
 use Rattle.remarks.specs.Remarks.{remarks_good}
 use Rattle.serials.specs.Serials.{serial_good, serial_of, serial_fits, spell_serial}
 use Rattle.frequencies.specs.declared.Frequency.{Frequency}
-use Rattle.frequencies.specs.declared.Frequency.TheVariants as frequencies
-use Rattle.formats.specs.declared.Tenths.TheVariants as decimals
-use Rattle.distances.specs.declared.Height.TheVariants as heights
-use Rattle.serials.specs.declared.Serial.TheVariants as serials
 
 -- The rules of texts that are all spaces in an empty record.
 pub data TextRule : Type 0 where
@@ -95,21 +90,21 @@ first_of (x ∷ xs) = bytes x
 -- optional values blank, text all spaces.
 abbrev pub meaning : Kind → ℕ → Meaning
 meaning amount w = record {
-  Value = Frequency;
+  Value = Option Frequency;
   good = λ f k. amount_good (at f k);
   value = λ f k. frequency_of (at f k) (at f (suc k));
   fits = frequency_fits;
   spelt = spell_amount;
-  empty = frequencies.Blank;
+  empty = None;
   range = above_zero;
 }
 meaning unit w = record {
-  Value = Frequency;
+  Value = Option Frequency;
   good = λ f k. unit_good (at f (k - 1)) (at f k);
   value = λ f k. frequency_of (at f (k - 1)) (at f k);
   fits = λ v. true;
   spelt = spell_unit;
-  empty = frequencies.Blank;
+  empty = None;
   range = any_number;
 }
 meaning (byte first set) w = alone (byte_good set) head set (λ c. c ∷ []) (code first)
@@ -117,12 +112,12 @@ meaning (choice xs) w = kept (one_of xs) (first_of xs)
 meaning (text rule) w = kept (text_keeps rule w) (replicate w 32)
 meaning (dropped rule) w = alone {A = Unit {0}} (text_keeps rule w) (λ p. tt) (λ v. true) (λ v. replicate w 32) tt
 meaning remarks w = kept remarks_good (replicate w 32)
-meaning date w = alone date_good day_of date_fits spell_day days.Blank
-meaning date_or_blank w = alone day_good day_of day_fits spell_day days.Blank
-meaning (tenths a sign range) w = ranged range (tenths_good a 1 sign range) (tenths_of a 1 sign) (tenths_fit a 1 sign range) (spell_tenths a 1 sign) decimals.Blank
+meaning date w = alone date_good day_of date_fits spell_day None
+meaning date_or_blank w = alone day_good day_of day_fits spell_day None
+meaning (tenths a sign range) w = ranged range (tenths_good a 1 sign range) (tenths_of a 1 sign) (tenths_fit a 1 sign range) (spell_tenths a 1 sign) None
 meaning kilometres w = alone (λ p. whole_filled (whole_of p)) radius_of radius_fits spell_radius (record { 0 = 0 })
 meaning metres w = alone (λ p. whole_filled (whole_of p)) ground_of ground_fits spell_ground (record { 0 = pos 0 })
-meaning metres_or_blank w = ranged height_range height_good height_of height_fits spell_height heights.Blank
+meaning metres_or_blank w = ranged height_range height_good height_of height_fits spell_height None
 meaning position w = alone position_good position_of position_fits spell_position (record { east = pos 0; north = pos 0 })
 meaning whole w = alone (λ p. whole_filled (whole_of p)) (λ p. numbers.amount (whole_of p)) (whole_fits w) (spell_whole w) 0
-meaning whole_or_blank w = alone serial_good serial_of serial_fits spell_serial serials.Blank
+meaning whole_or_blank w = alone serial_good serial_of serial_fits spell_serial None

@@ -1,28 +1,24 @@
 -- Document 01, "Worked figures": those marked P, as one table under one statement.
-use Rattle.std.specs.Prelude.{ℕ, ◌≡◌, cond, List, [], ◌∷◌, eqb, ℤ, pos, neg_ℤ}
+use Rattle.std.specs.Prelude.{ℕ, ◌≡◌, cond, List, [], ◌∷◌, eqb, ℤ, pos, neg_ℤ, Option, Some, None}
 use Prim.Native.String.{String}
 use Rattle.frequencies.specs.declared.Frequency.{Frequency}
-use Rattle.frequencies.specs.declared.Frequency.TheVariants as frequency
-use Rattle.formats.specs.declared.Tenths.{Tenths}
-use Rattle.formats.specs.declared.Tenths.TheVariants as tenths
-use Rattle.distances.specs.declared.Height.{Height}
-use Rattle.distances.specs.declared.Height.TheVariants as height
 use Rattle.station.specs.Codes.{station_code, value_of}
 use Rattle.station.specs.declared.Station.{Station}
 use Rattle.figures.specs.Samples.{s_with}
+use Rattle.distances.specs.declared.Metres.{Metres}
 
 -- The numbers that a value says, none where it is blank.
-abbrev pub amounts : Frequency → List ℤ
-amounts frequency.Blank = []
-amounts (frequency.Filled n u) = pos n ∷ []
+abbrev pub amounts : Option Frequency → List ℤ
+amounts None = []
+amounts (Some f) = pos f.amount ∷ []
 
-abbrev pub tenth : Tenths → List ℤ
-tenth tenths.Blank = []
-tenth (tenths.Filled z) = z ∷ []
+abbrev pub tenth : Option ℤ → List ℤ
+tenth None = []
+tenth (Some z) = z ∷ []
 
-abbrev pub metres_of : Height → List ℤ
-metres_of height.Blank = []
-metres_of (height.Filled m) = m.0 ∷ []
+abbrev pub metres_of : Option Metres → List ℤ
+metres_of None = []
+metres_of (Some m) = m.0 ∷ []
 
 -- The numbers of the field of a code: 1A, 4C, 4Z, 8B1, 9A and 9B.
 abbrev pub numbers : ℕ → Station → List ℤ

@@ -1,19 +1,12 @@
 -- Document 01, "Values and the one spelling": typed stations. Station S read, written and read again, with each rule of typed stations broken
 -- once, with a value set, and the empty station written; computed from the definitions.
-use Rattle.std.specs.Prelude.{ℕ, ◌-◌, ◌≡◌, List, [], ◌∷◌, map, pos, neg_ℤ, set, replicate}
+use Rattle.std.specs.Prelude.{ℕ, ◌-◌, ◌≡◌, List, [], ◌∷◌, map, pos, neg_ℤ, set, replicate, Option, Some, None, ℤ}
 use Prim.Native.String.{String}
-use Rattle.days.specs.declared.dates.Day.{Day}
-use Rattle.days.specs.declared.dates.Day.TheVariants as day
 use Rattle.frequencies.specs.declared.Frequency.{Frequency}
-use Rattle.frequencies.specs.declared.Frequency.TheVariants as frequency
 use Rattle.frequencies.specs.declared.Hertz.TheVariants as hertz
-use Rattle.formats.specs.declared.Tenths.{Tenths}
-use Rattle.formats.specs.declared.Tenths.TheVariants as tenths
 use Rattle.distances.specs.declared.Kilometres.{Kilometres}
-use Rattle.distances.specs.declared.Height.TheVariants as height
 use Rattle.positions.specs.declared.Position.{Position}
-use Rattle.basics.specs.Outcomes.{refusal, code_with}
-use Rattle.basics.specs.declared.Outcome.{Outcome}
+use Rattle.basics.specs.Outcomes.{refusal, code_with, Outcome}
 use Rattle.station.specs.Values.{empty_station}
 use Rattle.station.specs.Codes.{value_of, typed_code}
 use Rattle.station.specs.Calls.{read_outcome, read_station, write_outcome, written_station, set_outcome, set_station}
@@ -21,6 +14,7 @@ use Rattle.station.specs.Setting.{with_value, with_power, with_azimuth, with_ele
 use Rattle.station.specs.declared.Station.{Station}
 use Rattle.figures.specs.Samples.{record_from, station_s}
 use Rattle.figures.specs.Worked.{spelled_s}
+use Rattle.days.specs.declared.dates.Date.{Date}
 
 -- A text in field number k of a record's texts.
 abbrev pub put : ℕ → String → List String → List String
@@ -39,29 +33,29 @@ abbrev pub said_with : ℕ → String → Station
 said_with k t = said (put k t station_s)
 
 -- Station S with a value changed that no text says: 1A,
-abbrev pub with_transmit : Frequency → Station
+abbrev pub with_transmit : Option Frequency → Station
 with_transmit v = with_value 1 typed_s v
 
 -- 2C, 4C or 4D,
-abbrev pub sited : Day → Position → Kilometres → Station
+abbrev pub sited : Option Date → Position → Kilometres → Station
 sited started position radius = with_value 8 (with_value 11 (with_value 12 typed_s radius) position) started
 
 -- 9G,
-abbrev pub with_gain : Tenths → Station
+abbrev pub with_gain : Option ℤ → Station
 with_gain v = with_value 20 typed_s v
 
 -- 1Y, 2W or 2Z.
-abbrev pub filed : Frequency → Day → Day → Station
+abbrev pub filed : Option Frequency → Option Date → Option Date → Station
 filed receive requested coordinated = with_value 24 (with_value 28 (with_value 29 typed_s coordinated) requested) receive
 
 -- A typed date, whether or not there is such a day.
-abbrev pub dated : ℕ → ℕ → ℕ → Day
-dated d m y = day.Filled (record { day = d; month = m; year = y })
+abbrev pub dated : ℕ → ℕ → ℕ → Option Date
+dated d m y = Some (record { day = d; month = m; year = y })
 
 -- Station S with each rule broken once that a typed station can break, in their order: all but 2 and 25.
 abbrev pub broken : List Station
 broken =
-    with_transmit (frequency.Filled 0 hertz.Mega) ∷
+    with_transmit (Some (record { amount = 0; unit = hertz.Mega })) ∷
     said_with 3 "9" ∷
     said_with 4 "XX" ∷
     said_with 5 "XX" ∷
@@ -72,18 +66,18 @@ broken =
     said_with 10 "A T" ∷
     sited typed_s.site.started (record { east = pos 648001; north = pos 0 }) typed_s.site.radius ∷
     sited typed_s.site.started typed_s.site.position (record { 0 = 100000 }) ∷
-    with_height typed_s (height.Filled (record { 0 = neg_ℤ (pos 1000) })) ∷
+    with_height typed_s (Some (record { 0 = neg_ℤ (pos 1000) })) ∷
     said_with 14 "0M00G7W  " ∷
-    with_power typed_s (tenths.Filled (pos 10000)) ∷
+    with_power typed_s (Some (pos 10000)) ∷
     said_with 16 "X" ∷
-    with_azimuth typed_s (tenths.Filled (pos 3600)) ∷
-    with_elevation typed_s (tenths.Filled (neg_ℤ (pos 901))) ∷
+    with_azimuth typed_s (Some (pos 3600)) ∷
+    with_elevation typed_s (Some (neg_ℤ (pos 901))) ∷
     said_with 19 " H" ∷
-    with_gain (tenths.Filled (pos 1000)) ∷
+    with_gain (Some (pos 1000)) ∷
     with_ground typed_s (record { 0 = neg_ℤ (pos 1) }) ∷
     said_with 22 "000nd00" ∷
     said_with 23 "000ND0 " ∷
-    filed (frequency.Filled 10000000000 hertz.Giga) typed_s.coordination.requested typed_s.coordination.coordinated ∷
+    filed (Some (record { amount = 10000000000; unit = hertz.Giga })) typed_s.coordination.requested typed_s.coordination.coordinated ∷
     said_with 26 "99999999999999999999999999999999999999999999999999" ∷
     said_with 27 "X" ∷
     filed typed_s.coordination.receive (dated 0 1 2000) typed_s.coordination.coordinated ∷
@@ -136,10 +130,10 @@ pub record TypedWorked : Type 0 where
   -- Each rule that a typed station can break.
   pub codes : map typed_code broken ≡ broken_codes
   -- Values set: a power of 35.0, an azimuth of 360.0, no elevation, a height of -999 and one above ground of -1.
-  pub power : Taken (with_power typed_s (tenths.Filled (pos 350)))
-  pub azimuth : Refused (with_azimuth typed_s (tenths.Filled (pos 3600))) 17
-  pub elevation : Taken (with_elevation typed_s tenths.Blank)
-  pub sea_height : Taken (with_height typed_s (height.Filled (record { 0 = neg_ℤ (pos 999) })))
+  pub power : Taken (with_power typed_s (Some (pos 350)))
+  pub azimuth : Refused (with_azimuth typed_s (Some (pos 3600))) 17
+  pub elevation : Taken (with_elevation typed_s None)
+  pub sea_height : Taken (with_height typed_s (Some (record { 0 = neg_ℤ (pos 999) })))
   pub ground : Refused (with_ground typed_s (record { 0 = neg_ℤ (pos 1) })) 21
   -- The empty station cannot be written: a short buffer is refused first, and on either refusal the buffer is as it was.
   pub short_ends : ended (write_outcome empty_station (dashes 218)) ≡ (7 ∷ 0 ∷ [])

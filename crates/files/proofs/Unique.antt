@@ -1,9 +1,9 @@
 -- The promises of the calls on files leave one answer.
+use Rattle.basics.specs.Outcomes.{Outcome}
 use mathlib.Core.Path.{◌≡◌, sym, ◌∙◌}
 use mathlib.Core.List.{List}
 use Prim.Native.Nat.{ℕ}
 use denote.Ref.{Bor}
-use Rattle.basics.specs.declared.Outcome.{Outcome}
 use Rattle.files.specs.Promises.{FileChecked, StationsCounted, RecordFound}
 
 -- Two answers of `check_file` to one file are equal,

@@ -1,5 +1,5 @@
 -- Document 01, "The filing and its files": one 219-byte header and n stations of 219 bytes. Record 0 is the header, stations count from 1.
-use Rattle.std.specs.Prelude.{ℕ, ◌+◌, ◌-◌, ◌*◌, ◌/◌, ◌%◌, Bool, not, ◌||◌, List, ◌++◌, length, take, drop, ltb, eqb}
+use Rattle.std.specs.Prelude.{ℕ, ◌+◌, ◌-◌, ◌*◌, ◌/◌, ◌%◌, ◌≤◌, Bool, not, ◌||◌, List, ◌++◌, length, take, drop, ltb, eqb}
 use Rattle.basics.specs.Fields.{record_length}
 
 -- A file has at most 298 stations (document 02, wish 4).
@@ -13,6 +13,10 @@ stations file = length file / record_length - 1
 -- Record number k.
 unfoldable pub record_at : List ℕ → ℕ → List ℕ
 record_at file k = take record_length (drop (record_length * k) file)
+
+-- It is wholly there.
+abbrev pub HasRecord : List ℕ → ℕ → Type 0
+HasRecord file k = record_length * k + record_length ≤ length file
 
 -- How many bytes stand before it: 219 for each record before it, and all of a file that ends sooner.
 unfoldable pub record_offset : List ℕ → ℕ → ℕ

@@ -1,8 +1,8 @@
 -- What the calls on files promise, as relations between what they are given and their answers.
+use Rattle.basics.specs.Outcomes.{Outcome}
 use Rattle.std.specs.Prelude.{ℕ, ◌≡◌, List}
 use Rattle.std.specs.Borrow.{Bor}
 use Rattle.basics.specs.Pieces.{StandsAt}
-use Rattle.basics.specs.declared.Outcome.{Outcome}
 use Rattle.files.specs.Files.{stations, record_at, record_offset}
 use Rattle.files.specs.Calls.{length_outcome}
 

@@ -1,10 +1,9 @@
 // A file's length, and the records in it.
-ghost use Rattle.std.specs.Prelude.{◌≡◌, ◌+◌, ◌*◌, ◌≤◌, length};
-ghost use Rattle.basics.specs.Fields.{record_length};
-ghost use Rattle.files.specs.Files.{record_at};
+ghost use Rattle.std.specs.Prelude.{◌≡◌, ◌+◌, ◌*◌, length};
+ghost use Rattle.files.specs.Files.{HasRecord, record_at};
 ghost use Rattle.files.specs.Promises.{FileChecked, StationsCounted, RecordFound};
 
-use basics::Outcome;
+use basics::Refusal;
 
 // The bytes of a record, the most stations of a file, and the most bytes.
 pub const RECORD_LENGTH: usize = 219;
@@ -14,19 +13,19 @@ pub const MOST_STATIONS: usize = 298;
 pub const MOST_BYTES: usize = RECORD_LENGTH * (MOST_STATIONS + 1);
 
 // Whether a file has a length that calls take: 1, 2, or done.
-pub fn check_file(file: &[u8]) -> Outcome
+pub fn check_file(file: &[u8]) -> Result<(), Refusal>
     ensures { FileChecked file.now result }
 {
     if file.len() > MOST_BYTES {
-        return Outcome::FileTooLong;
+        return Err(Refusal::FileTooLong);
     }
     if file.len() == 0 {
-        return Outcome::FileNotRecords;
+        return Err(Refusal::FileNotRecords);
     }
     if file.len() % RECORD_LENGTH != 0 {
-        return Outcome::FileNotRecords;
+        return Err(Refusal::FileNotRecords);
     }
-    Outcome::Done
+    Ok(())
 }
 
 // How many stations stand after the header.
@@ -58,7 +57,7 @@ pub fn record_in(file: &[u8], k: usize) -> &[u8]
 
 // Record number k where it is wholly there, as a part of the file itself.
 pub fn whole_record(file: &[u8], k: usize) -> &[u8]
-    requires { record_length * k + record_length ≤ length file.now }
+    requires { HasRecord file.now k }
     ensures { result.now ≡ record_at file.now k }
 {
     let first = RECORD_LENGTH * k;

@@ -19,8 +19,7 @@ fn copy_field(columns: &mut [u8], text: &[u8]) -> usize
         × Passed text.now result
         × (result < length columns.new → Ends text.now result) }
 {
-    let mut i: usize = 0;
-    while i < columns.len() {
+    for i in 0..columns.len() {
         if i == text.len() {
             return i;
         }
@@ -29,9 +28,8 @@ fn copy_field(columns: &mut [u8], text: &[u8]) -> usize
             return i;
         }
         columns[i] = c;
-        i += 1;
     }
-    i
+    columns.len()
 }
 
 // Puts the field that stands first in a text into its columns, padded on its side, and answers its length; one that is too long is
@@ -60,10 +58,9 @@ pub fn put_fields(line: &[u8], rec: &mut [u8]) -> bool
     ensures value { result ≡ none_longer station_places (line_fields line.now) }
     ensures rec_after { result ≡ true → rec.new ≡ record_of line.now }
 {
-    let mut k: usize = 0;
-    let mut at: usize = 0;
-    let mut column: usize = 0;
-    while k < 30 {
+    let mut at = 0;
+    let mut column = 0;
+    for k in 0..30 {
         let w = width_after(k);
         let side = side_after(k);
         let end = column + w;
@@ -73,7 +70,6 @@ pub fn put_fields(line: &[u8], rec: &mut [u8]) -> bool
         }
         at = past(line, at + n);
         column = end;
-        k += 1;
     }
     true
 }

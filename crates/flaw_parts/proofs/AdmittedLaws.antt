@@ -16,7 +16,6 @@ use Rattle.columns.specs.Sets.{is, among, between, is_digit, is_upper, is_lower,
 use Rattle.columns.specs.Texts.{bytes, head, ended, skip, blank, trimmed, every, each, byte_good, same, one_of, how_many, sized, text_good}
 use Rattle.columns.proofs.TextLaws.{and_split, and_both, cond_case, every_end, each-replicate}
 use Rattle.numerals.specs.Numbers.{most_digits, leading, after, whole_digits, whole_of, whole_filled, admits_whole, number_of, signed_of}
-use Rattle.numerals.specs.declared.Whole.{Whole}
 use Rattle.decimals.specs.Decimals.{magnitude_of, admits_decimal, decimal_of}
 use Rattle.days.specs.Dates.{date_reads}
 use Rattle.positions.specs.Positions.{admits_position, whole_reads, arc_reads, position_reads}
@@ -26,6 +25,8 @@ use Rattle.serials.specs.Serials.{serial_good, serial_passes}
 use Rattle.fields.specs.Kinds.{TextRule, places, word, left_text, literal, emission, Kind, amount, unit, byte, choice, text, dropped, remarks, date, date_or_blank, tenths, kilometres, metres, metres_or_blank, position, whole, whole_or_blank, text_keeps}
 use Rattle.flaw_parts.specs.Parts.{in_some, at_some, emission_sets, admits_text, number_reads, day_reads, Parts, parts}
 use Rattle.flaw_parts.proofs.EveryLaws.{or_left, or_right, or_case, every_wider, every-parts, every_at, every-skip, every-blank, every-trimmed, whole_digits_in, whole_in, magnitude_in, number_in, same_in, one_in, each_in, byte_in}
+use Rattle.std.specs.Prelude.{Option, Result}
+use Rattle.numerals.specs.declared.Unread.{Unread}
 
 whole_digit : (sign : Bool) (c : ℕ) → is_digit c ≡ true → admits_whole sign c ≡ true
 unfolding admits_whole
@@ -303,14 +304,14 @@ text_admitted emission w p e = emission_admitted p e
 digits_there : (t : List ℕ) → serial_passes (whole_digits t) ≡ true → whole_filled (whole_digits t) ≡ true
 unfolding whole_digits
 digits_there t =
-    cond_case (λ (w : Whole). serial_passes w ≡ true → whole_filled w ≡ true) (not (ended (leading most_digits t)) && ended (after most_digits t))
+    cond_case (λ (w : Result (Option ℕ) Unread). serial_passes w ≡ true → whole_filled w ≡ true) (not (ended (leading most_digits t)) && ended (after most_digits t))
     (λ q e. refl) (λ q e. absurd (false≢true e))
 
 serial_admitted : (p : List ℕ) → serial_good p ≡ true → every (admits_whole false) p ≡ true
 unfolding serial_good whole_of
 serial_admitted p =
     let S = admits_whole false in
-    cond_case (λ (w : Whole). serial_passes w ≡ true → every S p ≡ true) (ended (skip p))
+    cond_case (λ (w : Result (Option ℕ) Unread). serial_passes w ≡ true → every S p ≡ true) (ended (skip p))
     (λ q e. every-blank S (whole_space false) p q)
     (λ q e. every-skip S (whole_space false) p (whole_digits_in S (whole_digit false) (skip p) (digits_there (skip p) e)))
 

@@ -13,13 +13,12 @@ use Rattle.columns.specs.Sets.{is, among, is_digit}
 use Rattle.columns.specs.Texts.{bytes, head, tail, ended, skip, blank, trimmed, every, each, byte_good, same, one_of}
 use Rattle.columns.proofs.TextLaws.{and_split, and_both, cond_case, every_more}
 use Rattle.numerals.specs.Numbers.{leading, after, number, whole_digits, whole_of, whole_filled, in_sign, has_minus, unsigned, number_of}
-use Rattle.numerals.specs.declared.Whole.{Whole}
-use Rattle.numerals.specs.declared.Whole.TheVariants as whole
-use Rattle.numerals.specs.declared.Signed.{Signed}
 use Rattle.decimals.specs.Decimals.{fraction_of, magnitude_of}
 use Rattle.flaws.specs.Flaws.{unread}
 use Rattle.flaws.specs.declared.Flaw.{Flaw}
 use Rattle.flaw_parts.specs.Parts.{in_some, at_some, number_reads}
+use Rattle.std.specs.Prelude.{Option, Some, None, Result, Ok, Err, ℤ}
+use Rattle.numerals.specs.declared.Unread.{Unread}
 
 pub or_left : (a b : Bool) → a ≡ true → (a || b) ≡ true
 or_left a b e = rw e
@@ -69,7 +68,7 @@ module _ (S : ℕ → Bool) where
   unfolding whole_digits
   whole_digits_in d t =
       let l = leading 18 t in
-      cond_case (λ (w : Whole). whole_filled w ≡ true → every S t ≡ true) (not (ended l) && ended (drop (length l) t))
+      cond_case (λ (w : Result (Option ℕ) Unread). whole_filled w ≡ true → every S t ≡ true) (not (ended l) && ended (drop (length l) t))
       (λ q e. every-after d 18 t (ended-every (drop (length l) t) (and_split (not (ended l)) (ended (drop (length l) t)) q).1))
       (λ q e. absurd (false≢true e))
 
@@ -99,7 +98,7 @@ module _ (S : ℕ → Bool) where
       pub whole_in : (p : List ℕ) → whole_filled (whole_of p) ≡ true → every S p ≡ true
       unfolding whole_of
       whole_in p =
-          cond_case (λ (w : Whole). whole_filled w ≡ true → every S p ≡ true) (ended (skip p))
+          cond_case (λ (w : Result (Option ℕ) Unread). whole_filled w ≡ true → every S p ≡ true) (ended (skip p))
           (λ q e. absurd (false≢true e))
           (λ q e. every-skip p (whole_digits_in digit (skip p) e))
 
@@ -108,7 +107,7 @@ module _ (S : ℕ → Bool) where
       unfolding fraction_of
       fraction_in b v t =
           let l = leading b t in
-          cond_case (λ (w : Whole). whole_filled w ≡ true → every S t ≡ true) (not (ended l) && blank (drop (length l) t))
+          cond_case (λ (w : Result (Option ℕ) Unread). whole_filled w ≡ true → every S t ≡ true) (not (ended l) && blank (drop (length l) t))
           (λ q e. every-after digit b t (every-blank (drop (length l) t) (and_split (not (ended l)) (blank (drop (length l) t)) q).1))
           (λ q e. absurd (false≢true e))
 
@@ -123,7 +122,7 @@ module _ (S : ℕ → Bool) where
       unfolding magnitude_of
       magnitude_in p a b t =
           let point = drop (length (leading a t)) t in
-          cond_case (λ (w : Whole). whole_filled w ≡ true → every S t ≡ true) (is "." (head point))
+          cond_case (λ (w : Result (Option ℕ) Unread). whole_filled w ≡ true → every S t ≡ true) (is "." (head point))
           (λ q e. every-after digit a t (point_in p point q (fraction_in b (number (leading a t)) (tail point) e)))
           (λ q e. absurd (false≢true e))
 
@@ -137,14 +136,14 @@ module _ (S : ℕ → Bool) where
             (λ q f. let h = and_split sign (among "+-" c) q in and_both (S c) (every S t) (mark h.0 c h.1) f)
             (λ q f. f) e
 
-        pub in_sign_lem : (wrong : Flaw) (minus : Bool) (w : Whole) → number_reads (in_sign wrong minus w) ≡ true → whole_filled w ≡ true
-        in_sign_lem wrong minus whole.Bad e = e
-        in_sign_lem wrong minus whole.Blank e = e
-        in_sign_lem wrong minus (whole.Filled v) e = e
+        pub in_sign_lem : (wrong : Flaw) (minus : Bool) (w : Result (Option ℕ) Unread) → number_reads (in_sign wrong minus w) ≡ true → whole_filled w ≡ true
+        in_sign_lem wrong minus (Err bad) e = e
+        in_sign_lem wrong minus (Ok None) e = e
+        in_sign_lem wrong minus (Ok (Some v)) e = e
 
-        pub number_in : (admits : ℕ → Bool) (d : List ℕ → Whole) → ((t : List ℕ) → whole_filled (d t) ≡ true → every S t ≡ true) → (p : List ℕ) → number_reads (number_of sign admits d p) ≡ true → every S p ≡ true
+        pub number_in : (admits : ℕ → Bool) (d : List ℕ → Result (Option ℕ) Unread) → ((t : List ℕ) → whole_filled (d t) ≡ true → every S t ≡ true) → (p : List ℕ) → number_reads (number_of sign admits d p) ≡ true → every S p ≡ true
         number_in admits d h p =
-            cond_case (λ (w : Signed). number_reads w ≡ true → every S p ≡ true) (ended (skip p))
+            cond_case (λ (w : Result (Option ℤ) Flaw). number_reads w ≡ true → every S p ≡ true) (ended (skip p))
             (λ q e. every-blank p q)
             (λ q e. every-skip p (unsigned_in (skip p) (h (unsigned sign (skip p)) (in_sign_lem (unread admits p) (has_minus sign (skip p)) (d (unsigned sign (skip p))) e))))
 

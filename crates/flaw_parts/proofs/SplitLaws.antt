@@ -12,12 +12,9 @@ use Rattle.columns.specs.Sets.{is, among, is_digit}
 use Rattle.columns.specs.Texts.{skip, blank, every, each, byte_good, one_of, sized}
 use Rattle.columns.proofs.TextLaws.{and_split, and_both, cond_case}
 use Rattle.numerals.specs.Numbers.{signed_of, passes}
-use Rattle.numerals.specs.declared.Signed.{Signed}
-use Rattle.numerals.specs.declared.Signed.TheVariants as signed
 use Rattle.decimals.specs.Decimals.{decimal_of}
 use Rattle.formats.specs.Tenths.{tenths_good}
 use Rattle.days.specs.Dates.{date_reads, unread_date, date_of, date_in, date_rule, day_passes, date_filled, day_good, date_good}
-use Rattle.days.specs.declared.dates.Dated.TheVariants as dated
 use Rattle.frequencies.specs.Frequencies.{above_zero, amount_good, unit_good}
 use Rattle.distances.specs.Distances.{height_range, height_good}
 use Rattle.positions.specs.Positions.{whole_at, arc_seconds, arc_good, position_good, whole_reads, arc_reads, position_reads}
@@ -32,14 +29,15 @@ use Rattle.flaw_parts.specs.Parts.{number_reads, day_reads, number_within, date_
 use Rattle.flaws.specs.declared.Flaw.{Flaw}
 use Rattle.flaws.specs.declared.Flaw.TheVariants as flaw
 use Rattle.flaw_parts.proofs.AdmittedLaws.{all_in_lem, all_in, admitted}
+use Rattle.std.specs.Prelude.{Option, Some, None, Result, Ok, Err}
 
 -- ---- a rule holds where the field is read and in range
 
 -- numbers,
-number-split : (range : ℤ → Bool) (v : Signed) → passes range v ≡ (number_reads v && number_within range v)
-number-split range (signed.Bad wrong) = refl
-number-split range signed.Blank = refl
-number-split range (signed.Filled z) = refl
+number-split : (range : ℤ → Bool) (v : Result (Option ℤ) Flaw) → passes range v ≡ (number_reads v && number_within range v)
+number-split range (Err wrong) = refl
+number-split range (Ok None) = refl
+number-split range (Ok (Some z)) = refl
 
 amount-split : (p : List ℕ) → amount_good p ≡ (number_reads (decimal_of 5 5 false p) && number_within above_zero (decimal_of 5 5 false p))
 unfolding amount_good
@@ -84,7 +82,7 @@ absorbed false false h = refl
 day_split : (p : List ℕ) → day_good p ≡ (day_reads p && day_within p)
 unfolding day_good date_of day_reads day_within date_reads date_within
 day_split p = by (unread_date p) (blank p) (each (replicate 8 is_digit) p) (date_rule (date_in p)) where
-  by : (x : Flaw) (b e r : Bool) → day_passes (cond b dated.Blank (cond (e && r) (dated.Filled (date_in p)) (dated.Bad x))) ≡ ((b || e) && (b || r))
+  by : (x : Flaw) (b e r : Bool) → day_passes (cond b (Ok None) (cond (e && r) (Ok (Some (date_in p))) (Err x))) ≡ ((b || e) && (b || r))
   by x true e r = refl
   by x false true true = refl
   by x false true false = refl
@@ -102,7 +100,7 @@ digits_unblank (c ∷ p) e = rw (digit_no_space c (and_split (is_digit c) (each 
 date_split : (p : List ℕ) → date_good p ≡ (date_reads p && date_within p)
 unfolding date_good date_of date_reads date_within
 date_split p = by (unread_date p) (blank p) (each (replicate 8 is_digit) p) (date_rule (date_in p)) (digits_unblank p) where
-  by : (x : Flaw) (b e r : Bool) → (e ≡ true → b ≡ false) → date_filled (cond b dated.Blank (cond (e && r) (dated.Filled (date_in p)) (dated.Bad x))) ≡ (e && r)
+  by : (x : Flaw) (b e r : Bool) → (e ≡ true → b ≡ false) → date_filled (cond b (Ok None) (cond (e && r) (Ok (Some (date_in p))) (Err x))) ≡ (e && r)
   by x true true r h = absurd (false≢true (sym (h refl)))
   by x true false r h = refl
   by x false true true h = refl

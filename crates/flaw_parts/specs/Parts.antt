@@ -1,11 +1,9 @@
 -- Document 02, wish 7: each kind's rule in three parts. Its bytes are admitted, it can be read, and what is read is in range.
-use Rattle.std.specs.Prelude.{ℕ, zero, suc, ◌+◌, ◌-◌, ◌*◌, Bool, true, false, cond, not, ◌&&◌, ◌||◌, List, [], ◌∷◌, length, get_or, take, drop, replicate, leb, ℤ}
+use Rattle.std.specs.Prelude.{ℕ, zero, suc, ◌+◌, ◌-◌, ◌*◌, Bool, true, false, cond, not, ◌&&◌, ◌||◌, List, [], ◌∷◌, length, get_or, take, drop, replicate, leb, ℤ, Option, Some, None, Result, Ok, Err}
 use Prim.Native.String.{String}
 use Rattle.columns.specs.Sets.{is, among, is_digit, is_text}
 use Rattle.columns.specs.Texts.{blank, every, each, byte_good, one_of, sized}
 use Rattle.numerals.specs.Numbers.{whole_of, whole_filled, admits_whole, signed_of}
-use Rattle.numerals.specs.declared.Signed.{Signed}
-use Rattle.numerals.specs.declared.Signed.TheVariants as signed
 use Rattle.decimals.specs.Decimals.{admits_decimal, decimal_of}
 use Rattle.days.specs.Dates.{date_reads, date_rule, date_in}
 use Rattle.basics.specs.Fields.{at}
@@ -49,10 +47,10 @@ admits_text emission c = at_some emission_sets c
 -- ---- what can be read, in range or not
 
 -- A number, or blank,
-abbrev pub number_reads : Signed → Bool
-number_reads (signed.Bad wrong) = false
-number_reads signed.Blank = true
-number_reads (signed.Filled z) = true
+abbrev pub number_reads : Result (Option ℤ) Flaw → Bool
+number_reads (Err wrong) = false
+number_reads (Ok None) = true
+number_reads (Ok (Some z)) = true
 
 -- a date or blank; a date and 4C say with their readers what can be read.
 unfoldable pub day_reads : List ℕ → Bool
@@ -60,10 +58,10 @@ day_reads p = blank p || date_reads p
 
 -- ---- what is read is in range; blank always is
 
-abbrev pub number_within : (ℤ → Bool) → Signed → Bool
-number_within range (signed.Bad wrong) = true
-number_within range signed.Blank = true
-number_within range (signed.Filled z) = range z
+abbrev pub number_within : (ℤ → Bool) → Result (Option ℤ) Flaw → Bool
+number_within range (Err wrong) = true
+number_within range (Ok None) = true
+number_within range (Ok (Some z)) = range z
 
 unfoldable pub date_within : List ℕ → Bool
 date_within p = date_rule (date_in p)
@@ -91,7 +89,7 @@ abbrev pub bounded : (ℕ → Bool) → (List ℕ → Bool) → (List ℕ → Bo
 bounded admits reads within = record { admits = admits; reads = reads; within = λ before p. within p }
 
 -- a number in a range,
-abbrev pub numbered : (ℕ → Bool) → (ℤ → Bool) → (List ℕ → Signed) → Parts
+abbrev pub numbered : (ℕ → Bool) → (ℤ → Bool) → (List ℕ → Result (Option ℤ) Flaw) → Parts
 numbered admits range number = bounded admits (λ p. number_reads (number p)) (λ p. number_within range (number p))
 
 -- and what is no number, date, place or unit: it is read where it keeps its rule, and never out of range.

@@ -36,28 +36,14 @@ pub fn flaw_number(flaw: Flaw) -> u8
 fn is_letter_of(letters: &[u8], c: u8) -> bool
     ensures { result ≡ letter_of letters.now c }
 {
-    let mut i = 0;
-    while i < letters.len() {
-        if letters[i] == c {
-            return true;
-        }
-        i += 1;
-    }
-    false
+    letters.contains(&c)
 }
 
 // Whether every byte of a text is one of some letters.
 pub fn all_letters_of(letters: &[u8], s: &[u8]) -> bool
     ensures { result ≡ every (letter_of letters.now) s.now }
 {
-    let mut i = 0;
-    while i < s.len() {
-        if !is_letter_of(letters, s[i]) {
-            return false;
-        }
-        i += 1;
-    }
-    true
+    s.iter().all(|c| is_letter_of(letters, *c))
 }
 
 // The flaw of a field that cannot be read, by the letters that it admits.

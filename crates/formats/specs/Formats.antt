@@ -1,9 +1,9 @@
 -- The formats of decimals as the code names them. Nothing is meant here that the tables of fields do not say.
-use Rattle.std.specs.Prelude.{ℕ, Bool, true, false, List, ℤ}
+use Rattle.std.specs.Prelude.{ℕ, Bool, true, false, List, ℤ, Option, Result}
 use Rattle.decimals.specs.Decimals.{decimal_of, decimal_width, decimal_fits, spell_decimal}
-use Rattle.numerals.specs.declared.Signed.{Signed}
 use Rattle.formats.specs.declared.Format.{Format}
 use Rattle.formats.specs.declared.Format.TheVariants as format
+use Rattle.flaws.specs.declared.Flaw.{Flaw}
 
 -- The five formats: 1A and 1Y 5/5, 8B1 signed 3/1, 9A 3/1, 9B signed 2/1, 9G 2/1. Digits before the point,
 abbrev pub digits_before : Format → ℕ
@@ -30,7 +30,7 @@ may_sign format.Elevation = true
 may_sign format.Gain = false
 
 -- A decimal of a format: what its columns say,
-abbrev pub format_of : Format → List ℕ → Signed
+abbrev pub format_of : Format → List ℕ → Result (Option ℤ) Flaw
 format_of f p = decimal_of (digits_before f) (digits_after f) (may_sign f) p
 
 -- its width,

@@ -6,8 +6,8 @@ ghost use Rattle.formats.specs.Formats.{digits_before, digits_after, may_sign, f
 
 use columns::texts::spaces;
 use decimals::{magnitude_of, put_decimal};
+use flaws::Flaw;
 use numeral_writing::{fits_whole, is_negative, magnitude};
-use numerals::Signed;
 use signed_numerals::{after_sign, has_minus, in_sign};
 
 // The field that a decimal stands in: it decides the digits before the point and after it, and the sign.
@@ -21,11 +21,7 @@ pub enum Format {
 }
 
 // A number of tenths (of a dBW, a degree or a dB), or none. Blank is never zero.
-#[derive(Clone, Copy)]
-pub enum Tenths {
-    Blank,
-    Filled(i64),
-}
+pub type Tenths = Option<i64>;
 
 // How many digits may stand before the point.
 fn digits_before(format: Format) -> usize
@@ -66,13 +62,13 @@ fn may_sign(format: Format) -> bool
     }
 }
 
-// A decimal of a format.
-pub fn read_decimal(format: Format, s: &[u8]) -> Signed
+// A decimal of a format, in units of its last place, or blank; or what is wrong with the columns.
+pub fn read_decimal(format: Format, s: &[u8]) -> Result<Option<i64>, Flaw>
     ensures { result ≡ format_of format s.now }
 {
     let i = spaces(s);
     if i == s.len() {
-        return Signed::Blank;
+        return Ok(None);
     }
     let a = digits_before(format);
     let b = digits_after(format);

@@ -1,21 +1,12 @@
 -- What is read of a sheet, whatever its bytes: a row, a number, and what stands behind the rows.
-use mathlib.Core.Path.{◌≡◌, refl, sym, ap, ◌∙◌}
-use mathlib.Core.List.{List, [], ◌∷◌}
-use Prim.Native.Nat.{ℕ, suc, ◌+◌, ◌-◌, ◌*◌, ◌/◌, ◌≤◌, ◌<◌}
-use native.Mathlib.Nat.{le_refl}
+use mathlib.Core.Path.{◌≡◌, sym, ap, ◌∙◌}
+use mathlib.Core.List.{List}
+use Prim.Native.Nat.{ℕ, suc, ◌+◌, ◌-◌, ◌*◌, ◌≤◌, ◌<◌}
 use native.Mathlib.Omega.{arith}
-use lib.ListN.{length, get_or, take, drop, length-drop, drop_of_length-le}
+use lib.ListN.{length, get_or, take, drop, drop_of_length-le}
 use lib.Seq.{take_all, drop-drop, drop-cons, get_or-drop}
 use Rattle.forms.specs.Forms.{value_from, page_row, head_at, lowest_at, found_at}
 use Rattle.forms.specs.OwnForm.{number_bytes, row_width, row_in, head_in, lowest_in, found_in}
-
--- All that stands from a place on,
-pub all_behind : (s : List ℕ) (a : ℕ) → take (length s - a) (drop a s) ≡ drop a s
-all_behind s a = let l : length (drop a s) ≤ length s - a = rw length-drop (le_refl (length s - a)) in take_all (length s - a) (drop a s) l
-
--- and past the last row there is nothing.
-pub behind_past : (s : List ℕ) (n : ℕ) → length s / row_width < n → [] ≡ drop (row_width * n) s
-behind_past s n h = let past : length s ≤ row_width * n = omega arith in sym (drop_of_length-le s past)
 
 module _ (s : List ℕ) (i : ℕ) {rest : List ℕ} (is : rest ≡ drop (row_width * i) s) where
   -- Row i + 1 is the front of what stands behind i rows,

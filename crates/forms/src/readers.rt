@@ -46,7 +46,7 @@ fn row(sheet: &[u8], i: usize) -> &[u8]
 fn joined(high: u8, low: u8) -> u16
     ensures { result ≡ high * 256 + low }
 {
-    high as u16 * 256 + low as u16
+    u16::from_be_bytes([high, low])
 }
 
 // The number whose bytes start at a place, as many of them as there are.
@@ -67,14 +67,7 @@ fn number(text: &[u8], place: usize) -> u16
 fn is_zero(text: &[u8]) -> bool
     ensures { result ≡ every (λ c. eqb c 0) text.now }
 {
-    let mut i = 0;
-    while i < text.len() {
-        if text[i] != 0 {
-            return false;
-        }
-        i += 1;
-    }
-    true
+    text.iter().all(|c| *c == 0)
 }
 
 // The code of row i + 1,

@@ -11,8 +11,6 @@ use Rattle.columns.specs.Sets.{among}
 use Rattle.columns.specs.Texts.{head, skip, blank, each}
 use Rattle.numerals.specs.Numbers.{passes, is_negative}
 use Rattle.decimals.specs.Decimals.{decimal_of, decimal_fits, spell_decimal}
-use Rattle.numerals.specs.declared.Signed.{Signed}
-use Rattle.numerals.specs.declared.Signed.TheVariants as signed
 use Rattle.columns.proofs.TextLaws.{and_split}
 use Rattle.decimals.proofs.DecimalTrip.{decimal-length}
 use Rattle.decimals.proofs.DecimalColumn.{HasPlaces, decimal-places, decimal_back, spaces_no_decimal}
@@ -20,7 +18,8 @@ use Rattle.frequencies.specs.Frequencies.{above_zero, amount_good, unit_good, un
 use Rattle.frequencies.specs.declared.Hertz.{Hertz}
 use Rattle.frequencies.specs.declared.Hertz.TheVariants as hertz
 use Rattle.frequencies.specs.declared.Frequency.{Frequency}
-use Rattle.frequencies.specs.declared.Frequency.TheVariants as frequency
+use Rattle.std.specs.Prelude.{Option, Some, None, Result, Ok, Err}
+use Rattle.flaws.specs.declared.Flaw.{Flaw}
 
 -- ---- 1A and 1Y: a frequency has two fields, its amount and its unit
 
@@ -33,32 +32,32 @@ pub record Pair {A : Type 0} (w₁ w₂ : ℕ) (good₁ : List ℕ → Bool) (go
   pub back : (v : A) → fits v ≡ true → value (spelt₁ v) (spelt₂ v) ≡ v
   pub read : (p q : List ℕ) → good₁ p ≡ true → fits (value p q) ≡ true
 
-amount_wide : (v : Frequency) → length (spell_amount v) ≡ 11
+amount_wide : (v : Option Frequency) → length (spell_amount v) ≡ 11
 unfolding spell_amount
-amount_wide frequency.Blank = refl
-amount_wide (frequency.Filled n u) = decimal-length 5 5 false (pos n)
+amount_wide None = refl
+amount_wide (Some f) = decimal-length 5 5 false (pos f.amount)
 
-unit_wide : (v : Frequency) → length (spell_unit v) ≡ 1
+unit_wide : (v : Option Frequency) → length (spell_unit v) ≡ 1
 unfolding spell_unit
-unit_wide frequency.Blank = refl
-unit_wide (frequency.Filled n u) = refl
+unit_wide None = refl
+unit_wide (Some f) = refl
 
-amount_trip : (n : ℕ) → (decimal_fits 5 5 false (pos n) && above_zero (pos n)) ≡ true → (decimal_of 5 5 false (spell_decimal 5 5 false (pos n)) ≡ signed.Filled (pos n)) × (above_zero (pos n) ≡ true)
+amount_trip : (n : ℕ) → (decimal_fits 5 5 false (pos n) && above_zero (pos n)) ≡ true → (decimal_of 5 5 false (spell_decimal 5 5 false (pos n)) ≡ Ok (Some (pos n))) × (above_zero (pos n) ≡ true)
 amount_trip n e =
     let h = and_split (decimal_fits 5 5 false (pos n)) (above_zero (pos n)) e in
     (decimal_back 5 5 false (pos n) (omega arith) h.0, h.1)
 
-amount-kept : (v : Frequency) → frequency_fits v ≡ true → amount_good (spell_amount v) ≡ true
+amount-kept : (v : Option Frequency) → frequency_fits v ≡ true → amount_good (spell_amount v) ≡ true
 unfolding spell_amount amount_good frequency_fits
-amount-kept frequency.Blank e = rw (spaces_no_decimal 5 5 false 11)
-amount-kept (frequency.Filled n u) e = let h = amount_trip n e in rw h.0 h.1
+amount-kept None e = rw (spaces_no_decimal 5 5 false 11)
+amount-kept (Some f) e = let h = amount_trip f.amount e in rw h.0 h.1
 
 -- an amount that is filled is not blank
-not-blank : (a b : ℕ) (sign : Bool) (p : List ℕ) (z : ℤ) → decimal_of a b sign p ≡ signed.Filled z → blank p ≡ false
+not-blank : (a b : ℕ) (sign : Bool) (p : List ℕ) (z : ℤ) → decimal_of a b sign p ≡ Ok (Some z) → blank p ≡ false
 unfolding decimal_of
 not-blank a b sign p z e = by (blank p) refl where
   by : (r : Bool) → blank p ≡ r → r ≡ false
-  by true q = let w : signed.Blank ≡ signed.Filled z = rw q at e in cc
+  by true q = let w : (Ok None) ≡ Ok (Some z) = rw q at e in cc
   by false q = refl
 
 unit_back : (u : Hertz) → (each (among "kMG" ∷ []) (unit_letter u ∷ []) ≡ true) × (unit_of (unit_letter u) ≡ u)
@@ -67,21 +66,21 @@ unit_back hertz.Kilo = (refl, refl)
 unit_back hertz.Mega = (refl, refl)
 unit_back hertz.Giga = (refl, refl)
 
-unit_kept : (v : Frequency) → frequency_fits v ≡ true → unit_good (spell_amount v) (spell_unit v) ≡ true
+unit_kept : (v : Option Frequency) → frequency_fits v ≡ true → unit_good (spell_amount v) (spell_unit v) ≡ true
 unfolding spell_amount spell_unit unit_good frequency_fits
-unit_kept frequency.Blank e = unfold skip each in refl
-unit_kept (frequency.Filled n u) e = rw (not-blank 5 5 false (spell_decimal 5 5 false (pos n)) (pos n) (amount_trip n e).0) (unit_back u).0
+unit_kept None e = unfold skip each in refl
+unit_kept (Some f) e = rw (not-blank 5 5 false (spell_decimal 5 5 false (pos f.amount)) (pos f.amount) (amount_trip f.amount e).0) (unit_back f.unit).0
 
-frequency_back : (v : Frequency) → frequency_fits v ≡ true → frequency_of (spell_amount v) (spell_unit v) ≡ v
+frequency_back : (v : Option Frequency) → frequency_fits v ≡ true → frequency_of (spell_amount v) (spell_unit v) ≡ v
 unfolding spell_amount spell_unit frequency_of frequency_fits
-frequency_back frequency.Blank e = rw (spaces_no_decimal 5 5 false 11)
-frequency_back (frequency.Filled n u) e = rw (amount_trip n e).0 (ap (λ (x : Hertz). frequency.Filled n x) (unit_back u).1)
+frequency_back None e = rw (spaces_no_decimal 5 5 false 11)
+frequency_back (Some f) e = rw (amount_trip f.amount e).0 (ap (λ (x : Hertz). Some (record { amount = f.amount; unit = x })) (unit_back f.unit).1)
 
-frequency_fits_lem : (d : Signed) (u : Hertz) → HasPlaces 5 5 false d → passes above_zero d ≡ true → frequency_fits (in_unit d u) ≡ true
+frequency_fits_lem : (d : Result (Option ℤ) Flaw) (u : Hertz) → HasPlaces 5 5 false d → passes above_zero d ≡ true → frequency_fits (in_unit d u) ≡ true
 unfolding frequency_fits
-frequency_fits_lem (signed.Bad wrong) u h e = absurd (false≢true e)
-frequency_fits_lem signed.Blank u h e = refl
-frequency_fits_lem (signed.Filled z) u h e =
+frequency_fits_lem (Err wrong) u h e = absurd (false≢true e)
+frequency_fits_lem (Ok None) u h e = refl
+frequency_fits_lem (Ok (Some z)) u h e =
     let g = and_split (ltb (nat_abs z) (10 ^ (5 + 5))) (not (is_negative z)) h in
     rw g.0 e
 

@@ -10,10 +10,9 @@ use Rattle.columns.specs.Sets.{is, among}
 use Rattle.columns.specs.Texts.{head, blank, each}
 use Rattle.numerals.specs.Numbers.{whole_fits}
 use Rattle.columns.proofs.TextLaws.{cond_case}
-use Rattle.frequencies.specs.declared.Hertz.{Hertz}
 use Rattle.frequencies.specs.declared.Frequency.{Frequency}
-use Rattle.frequencies.specs.declared.Frequency.TheVariants as frequency
 use Rattle.frequencies.specs.Frequencies.{unit_good, frequency_fits}
+use Rattle.std.specs.Prelude.{Option, Some}
 
 -- a field of one byte passes where its byte does,
 one_byte_lem : (test : ℕ → Bool) (q : List ℕ) → length q ≡ 1 → each (test ∷ []) q ≡ test (head q)
@@ -50,13 +49,13 @@ one_column [] c h = absurd (omega arith)
 one_column (b ∷ []) c h = refl
 one_column (b ∷ d ∷ s) c h = absurd (omega arith)
 
-module _ (n : ℕ) (u : Hertz) {v : Frequency} (e : v ≡ frequency.Filled n u) where
+module _ (f : Frequency) {v : Option Frequency} (e : v ≡ Some f) where
   -- an amount of too many digits does not fit,
-  pub amount-not : whole_fits 10 n ≡ false → false ≡ frequency_fits v
+  pub amount-not : whole_fits 10 f.amount ≡ false → false ≡ frequency_fits v
   unfolding frequency_fits
   amount-not h = rw (e, h)
 
   -- and one of few enough fits where it is above zero
-  pub amount_above : whole_fits 10 n ≡ true → ltb 0 n ≡ frequency_fits v
+  pub amount_above : whole_fits 10 f.amount ≡ true → ltb 0 f.amount ≡ frequency_fits v
   unfolding frequency_fits
   amount_above h = rw (e, h)

@@ -10,7 +10,6 @@ use columns::texts::{all_in, byte, is_blank, write_blank};
 use decimals::put_magnitude;
 use formats::{Format, read_decimal};
 use numeral_writing::{fits_whole, magnitude};
-use numerals::Signed;
 
 // What a frequency counts 1/100000 of: a kilohertz, a megahertz or a gigahertz.
 #[derive(Clone, Copy)]
@@ -20,11 +19,11 @@ pub enum Hertz {
     Giga,
 }
 
-// A frequency with its unit, or none.
+// A frequency with its unit: it counts 1/100000 of it.
 #[derive(Clone, Copy)]
-pub enum Frequency {
-    Blank,
-    Filled(u64, Hertz),
+pub struct Frequency {
+    pub amount: u64,
+    pub unit: Hertz,
 }
 
 // Whether an amount stands in its one spelling with a digit above 0 in the three places before the point: it is a decimal above zero.
@@ -50,9 +49,9 @@ pub fn is_amount(p: &[u8]) -> bool
         return true;
     }
     match read_decimal(Format::Frequency, p) {
-        Signed::Bad(_) => false,
-        Signed::Blank => true,
-        Signed::Filled(v) => 0 < magnitude(v),
+        Ok(Some(v)) => 0 < magnitude(v),
+        Ok(None) => true,
+        Err(_) => false,
     }
 }
 
@@ -105,49 +104,49 @@ pub fn unit_letter(u: Hertz) -> u8
 }
 
 // What an amount and its unit say; what cannot be read is never taken for a frequency.
-pub fn read_frequency(p: &[u8], q: &[u8]) -> Frequency
+pub fn read_frequency(p: &[u8], q: &[u8]) -> Option<Frequency>
     ensures { result ≡ frequency_of p.now q.now }
 {
-    match read_decimal(Format::Frequency, p) {
-        Signed::Bad(_) => Frequency::Blank,
-        Signed::Blank => Frequency::Blank,
-        Signed::Filled(v) => Frequency::Filled(magnitude(v), unit_of(byte(q, 0))),
-    }
+    let v = read_decimal(Format::Frequency, p).unwrap_or(None)?;
+    Some(Frequency {
+        amount: magnitude(v),
+        unit: unit_of(byte(q, 0)),
+    })
 }
 
 // Whether a frequency or its absence can stand: above zero, and of ten digits at most.
-pub fn fits_frequency(v: Frequency) -> bool
+pub fn fits_frequency(v: Option<Frequency>) -> bool
     ensures { result ≡ frequency_fits v }
 {
     match v {
-        Frequency::Blank => true,
-        Frequency::Filled(n, _) => {
-            if !fits_whole(10, n) {
+        None => true,
+        Some(f) => {
+            if !fits_whole(10, f.amount) {
                 return false;
             }
-            0 < n
+            0 < f.amount
         }
     }
 }
 
 // Writes the amount of a frequency, or blank, in its eleven columns.
-pub fn put_amount(s: &mut [u8], v: Frequency)
+pub fn put_amount(s: &mut [u8], v: Option<Frequency>)
     requires { length s.old ≡ 11 }
     ensures { s.new ≡ spell_amount v }
 {
     match v {
-        Frequency::Blank => write_blank(s),
-        Frequency::Filled(n, _) => put_magnitude(s, 0, 5, 5, n),
+        None => write_blank(s),
+        Some(f) => put_magnitude(s, 0, 5, 5, f.amount),
     }
 }
 
 // Writes the letter of a frequency's unit, or a space, in its one column.
-pub fn put_unit(s: &mut [u8], v: Frequency)
+pub fn put_unit(s: &mut [u8], v: Option<Frequency>)
     requires { length s.old ≡ 1 }
     ensures { s.new ≡ spell_unit v }
 {
     match v {
-        Frequency::Blank => s[0] = b' ',
-        Frequency::Filled(_, u) => s[0] = unit_letter(u),
+        None => s[0] = b' ',
+        Some(f) => s[0] = unit_letter(f.unit),
     }
 }

@@ -16,17 +16,17 @@ use Rattle.columns.specs.Texts.{head, tail, ended, skip, blank, every}
 use Rattle.columns.proofs.TextLaws.{and_split, tail_at, skip_other, blank-spaces, ended-length, every_take}
 use Rattle.flaws.specs.declared.Flaw.{Flaw}
 use Rattle.numerals.specs.Numbers.{leading, number, number_from, whole_filled, amount, passes, in_sign, has_minus, unsigned}
-use Rattle.numerals.specs.declared.Whole.{Whole}
-use Rattle.numerals.specs.declared.Whole.TheVariants as whole
 use Rattle.numerals.proofs.NumberLaws.{leading_few, digits_below}
 use Rattle.decimals.specs.Decimals.{fraction_of, magnitude_of, decimal_of}
 use Rattle.decimals.proofs.DecimalPlain.{plain-decimal}
-use Rattle.frequencies.specs.declared.Frequency.TheVariants as frequency
 use Rattle.frequencies.specs.Frequencies.{above_zero, amount_good, unit_of, frequency_of}
 use Rattle.frequency_values.specs.Full.{ReachesThrough}
+use Rattle.std.specs.Prelude.{Some, Option, None, Result, Ok, Err}
+use Rattle.numerals.specs.declared.Unread.{Unread}
+use Rattle.numerals.specs.Numbers.{no_whole}
 
 -- what is bad is not filled
-bad-filled : {w : ℕ} → whole.Bad ≡ whole.Filled w → ⊥
+bad-filled : {w : ℕ} → no_whole ≡ Ok (Some w) → ⊥
 bad-filled e = absurd (true≢false (ap whole_filled (sym e)))
 
 -- Where digits at the front fill their places, the places hold digits.
@@ -65,7 +65,7 @@ digit_or_space (suc k) (c ∷ t) (suc i) e h = by (is_digit c) refl (digit_or_sp
     by false f more = inr (blank_at (c ∷ t) (suc i) (rw f at e) h)
 
 -- What a fraction that is read has: spaces alone behind its digits.
-fraction_ends : (b v : ℕ) (u : List ℕ) (w : ℕ) → fraction_of b v u ≡ whole.Filled w → blank (drop (length (leading b u)) u) ≡ true
+fraction_ends : (b v : ℕ) (u : List ℕ) (w : ℕ) → fraction_of b v u ≡ Ok (Some w) → blank (drop (length (leading b u)) u) ≡ true
 unfolding fraction_of
 fraction_ends b v u w e = by (not (ended (leading b u)) && blank (drop (length (leading b u)) u)) refl
   where
@@ -74,16 +74,16 @@ fraction_ends b v u w e = by (not (ended (leading b u)) && blank (drop (length (
     by false f = absurd (bad-filled (rw f at e))
 
 -- What a magnitude that is read has: the point behind its digits, and a fraction.
-magnitude_ends : (a b : ℕ) (t : List ℕ) (w : ℕ) → magnitude_of a b t ≡ whole.Filled w
-    → (fraction_of b (number (leading a t)) (drop (length (leading a t) + 1) t) ≡ whole.Filled w)
+magnitude_ends : (a b : ℕ) (t : List ℕ) (w : ℕ) → magnitude_of a b t ≡ Ok (Some w)
+    → (fraction_of b (number (leading a t)) (drop (length (leading a t) + 1) t) ≡ Ok (Some w))
 unfolding magnitude_of
 magnitude_ends a b t w e = by (is "." (head (drop (length (leading a t)) t))) refl
   where
-    by : (q : Bool) → is "." (head (drop (length (leading a t)) t)) ≡ q → fraction_of b (number (leading a t)) (drop (length (leading a t) + 1) t) ≡ whole.Filled w
+    by : (q : Bool) → is "." (head (drop (length (leading a t)) t)) ≡ q → fraction_of b (number (leading a t)) (drop (length (leading a t) + 1) t) ≡ Ok (Some w)
     by true f = rw (f, tail_at t (length (leading a t))) at e
     by false f = absurd (bad-filled (rw f at e))
 
-module _ (a b : ℕ) (t : List ℕ) (w : ℕ) (one : 1 ≤ b) (n : length t ≡ a + 1 + b) (dot : get_or t a 0 ≡ 46) (last : get_or t (a + b) 0 ≡ 32 → ⊥) (e : magnitude_of a b t ≡ whole.Filled w) where
+module _ (a b : ℕ) (t : List ℕ) (w : ℕ) (one : 1 ≤ b) (n : length t ≡ a + 1 + b) (dot : get_or t a 0 ≡ 46) (last : get_or t (a + b) 0 ≡ 32 → ⊥) (e : magnitude_of a b t ≡ Ok (Some w)) where
   abbrev behind : ℕ → List ℕ
   behind k = drop (k + 1) t
 
@@ -132,17 +132,17 @@ joined_number v (c ∷ xs) =
     ∙ rw (pow-succ' 10 (length xs), zero-add d) (ap (λ (x : ℕ). v * (10 * k) + x) (sym (joined_number d xs)))
 
 -- What passes is a number that was read.
-read_filled : (wrong : Flaw) (minus : Bool) (m : Whole) → passes above_zero (in_sign wrong minus m) ≡ true → m ≡ whole.Filled (amount m)
-read_filled wrong minus whole.Bad e = absurd (false≢true e)
-read_filled wrong minus whole.Blank e = absurd (false≢true e)
-read_filled wrong minus (whole.Filled v) e = refl
+read_filled : (wrong : Flaw) (minus : Bool) (m : Result (Option ℕ) Unread) → passes above_zero (in_sign wrong minus m) ≡ true → m ≡ Ok (Some (amount m))
+read_filled wrong minus (Err bad) e = absurd (false≢true e)
+read_filled wrong minus (Ok None) e = absurd (false≢true e)
+read_filled wrong minus (Ok (Some v)) e = refl
 
 -- An amount that keeps its rule, and reaches through its columns,
 module _ (p : List ℕ) (n : length p ≡ 11) (good : amount_good p ≡ true) (through : ReachesThrough p) where
   there : ended p ≡ false
   there = ended-length p ∙ ne_eqb (length p) 0 (λ q. omega arith)
 
-  said : magnitude_of 5 5 p ≡ whole.Filled (amount (magnitude_of 5 5 p))
+  said : magnitude_of 5 5 p ≡ Ok (Some (amount (magnitude_of 5 5 p)))
   unfolding amount_good decimal_of unsigned
   said =
       let same : skip p ≡ p = skip_other p 0 (omega arith) through.1 in
@@ -167,7 +167,7 @@ module _ (p : List ℕ) (n : length p ≡ 11) (good : amount_good p ≡ true) (t
   fraction_below = digits_below 5 (take 5 (drop 6 p)) after_point (simp length-take (omega arith))
 
   -- and says what they say.
-  pub says_digits : (q : List ℕ) → frequency.Filled (number (take 5 p) * 100000 + number (take 5 (drop 6 p))) (unit_of (head q)) ≡ frequency_of p q
+  pub says_digits : (q : List ℕ) → Some (record { amount = number (take 5 p) * 100000 + number (take 5 (drop 6 p)); unit = unit_of (head q) }) ≡ frequency_of p q
   unfolding frequency_of
   says_digits q =
       let size : length (drop 6 p) ≡ 5 = length-drop 6 p ∙ omega arith in
@@ -175,4 +175,4 @@ module _ (p : List ℕ) (n : length p ≡ 11) (good : amount_good p ≡ true) (t
       let value : v ≡ number (take 5 p) * 100000 + number (take 5 (drop 6 p)) =
       joined_number (number (take 5 p)) (drop 6 p) ∙ rw (size, take_all 5 (drop 6 p) (omega arith)) in
       rw (plain-decimal 5 5 p (omega arith) (omega arith) n before_point through.0 behind_point)
-      (ap (λ (x : ℕ). frequency.Filled x (unit_of (head q))) (sym value))
+      (ap (λ (x : ℕ). Some (record { amount = x; unit = unit_of (head q) })) (sym value))

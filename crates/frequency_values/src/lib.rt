@@ -24,7 +24,7 @@ fn reaches_through(p: &[u8]) -> bool
 }
 
 // What an amount that keeps its rule and its unit say. One that reaches through its columns has a digit in each but the point's.
-pub fn frequency_in(p: &[u8], q: &[u8]) -> Frequency
+pub fn frequency_in(p: &[u8], q: &[u8]) -> Option<Frequency>
     requires { (length p.now ≡ 11) × (amount_good p.now ≡ true) }
     ensures { result ≡ frequency_of p.now q.now }
 {
@@ -33,5 +33,8 @@ pub fn frequency_in(p: &[u8], q: &[u8]) -> Frequency
     }
     let whole = number_of(&p[0..5]);
     let fraction = number_of(&p[6..11]);
-    Frequency::Filled(whole * 100000 + fraction, unit_of(byte(q, 0)))
+    Some(Frequency {
+        amount: whole * 100000 + fraction,
+        unit: unit_of(byte(q, 0)),
+    })
 }

@@ -1,4 +1,5 @@
 -- A gathered line is filed, or refused, as the whole line is.
+use Rattle.std.specs.Prelude.{Err}
 use mathlib.Core.Path.{◌≡◌, refl, sym, ap, ◌∙◌}
 use mathlib.Core.Bool.{Bool, true, false, cond}
 use mathlib.Core.List.{List, [], ◌∷◌}
@@ -13,12 +14,11 @@ use Rattle.basics.specs.Fields.{record_length, joined}
 use Rattle.station.specs.Places.{station_places}
 use Rattle.semicolons.specs.Fields.{none_longer}
 use Rattle.semicolons.specs.Lines.{is_semicolon, is_feed, line_fields, is_line, longest_line}
-use Rattle.basics.specs.Outcomes.{refusal, if_done, first_refusal, buffer_test}
+use Rattle.basics.specs.Outcomes.{refusal, if_done, first_refusal, buffer_test, Outcome}
 use Rattle.basics.proofs.RefusalLaws.{passes, stops}
 use Rattle.lists.specs.Calls.{line_tests, line_outcome, line_filing, filed_line}
 use Rattle.lists.specs.Promises.{LineFiled}
-use Rattle.basics.specs.declared.Outcome.{Outcome}
-use Rattle.basics.specs.declared.Outcome.TheVariants as outcome
+use Rattle.basics.specs.declared.Refusal.TheVariants as why
 use Rattle.gathering.specs.Gathering.{room, kept_of, Holds, kept_through, held_through}
 use Rattle.gathered_records.specs.Calls.{long_outcome, gathered_filing, filed_gathered}
 use Rattle.gathered_records.specs.Promises.{GatheredFiled}
@@ -35,7 +35,7 @@ module _ (buffer : List ℕ) (g : Gathered) (out : List ℕ) where
   held_filed h answer after f = rw (le-leb g.held longest_line h) f
 
   -- a longer one is refused for the length of the lent bytes,
-  pub long_unsized : longest_line < g.held → (length out ≡ record_length → ⊥) → GatheredFiled buffer g out outcome.BufferLength out
+  pub long_unsized : longest_line < g.held → (length out ≡ record_length → ⊥) → GatheredFiled buffer g out (Err why.BufferLength) out
   unfolding gathered_filing filed_gathered
   long_unsized h n = rw (lt-leb g.held longest_line h, ne_eqb (length out) record_length n) (refl, refl)
 
@@ -54,33 +54,33 @@ limit_test most w x h = by (eqb x w) refl where
   by false e = ne_eqb (min most x) w (λ q. eqb-false x w e (omega (arith, h, q))) ∙ sym e
 
 -- What is kept tells a line from what is none,
-marks_kept : (t : List ℕ) → long_outcome (kept_of t) ≡ cond (is_line t) outcome.FieldTooLong outcome.NotALine
+marks_kept : (t : List ℕ) → long_outcome (kept_of t) ≡ cond (is_line t) (Err why.FieldTooLong) (Err why.NotALine)
 unfolding long_outcome is_line
 marks_kept t = rw (limit_test 30 29 (how_many is_semicolon t) (omega arith), limit_test 2 1 (how_many is_feed t) (omega arith))
 
 -- and a long line has a field that is too long,
-long_outcome_lem : (t : List ℕ) → longest_line < length t → line_outcome t ≡ cond (is_line t) outcome.FieldTooLong outcome.NotALine
+long_outcome_lem : (t : List ℕ) → longest_line < length t → line_outcome t ≡ cond (is_line t) (Err why.FieldTooLong) (Err why.NotALine)
 unfolding line_outcome first_refusal
 long_outcome_lem t h = by (is_line t) (none_longer station_places (line_fields t)) refl refl where
-  by : (a b : Bool) → is_line t ≡ a → none_longer station_places (line_fields t) ≡ b → line_outcome t ≡ cond (is_line t) outcome.FieldTooLong outcome.NotALine
+  by : (a b : Bool) → is_line t ≡ a → none_longer station_places (line_fields t) ≡ b → line_outcome t ≡ cond (is_line t) (Err why.FieldTooLong) (Err why.NotALine)
   by true true e f = absurd (omega (arith, h, line-length t e f))
   by true false e f = rw (e, f)
   by false b e f = rw e
 
 -- so that it is refused and nothing is written.
-none_written : (s b : Bool) (x y : List ℕ) → if_done (cond s (cond b outcome.FieldTooLong outcome.NotALine) outcome.BufferLength) x y ≡ y
+none_written : (s b : Bool) (x y : List ℕ) → if_done (cond s (cond b (Err why.FieldTooLong) (Err why.NotALine)) (Err why.BufferLength)) x y ≡ y
 unfolding if_done refusal
 none_written true true x y = refl
 none_written true false x y = refl
 none_written false b x y = refl
 
 -- Filing a line asks the length of the lent bytes, and then what reading it asks.
-filing_asks : (t out : List ℕ) → line_filing t out ≡ cond (sized record_length out) (line_outcome t) outcome.BufferLength
+filing_asks : (t out : List ℕ) → line_filing t out ≡ cond (sized record_length out) (line_outcome t) (Err why.BufferLength)
 unfolding line_filing line_outcome
 filing_asks t out = by (eqb (length out) record_length) refl where
-  by : (b : Bool) → eqb (length out) record_length ≡ b → first_refusal (buffer_test out ∷ line_tests t) ≡ cond b (first_refusal (line_tests t)) outcome.BufferLength
-  by true e = passes outcome.BufferLength (line_tests t) (rw e)
-  by false e = stops outcome.BufferLength (line_tests t) (rw e)
+  by : (b : Bool) → eqb (length out) record_length ≡ b → first_refusal (buffer_test out ∷ line_tests t) ≡ cond b (first_refusal (line_tests t)) (Err why.BufferLength)
+  by true e = passes (Err why.BufferLength) (line_tests t) (rw e)
+  by false e = stops (Err why.BufferLength) (line_tests t) (rw e)
 
 -- What is gathered of a line is filed as the whole line is, whatever its length, and leaves the same.
 module _ (buffer : List ℕ) (g : Gathered) (t out : List ℕ) (h : Holds buffer g t) where
@@ -98,7 +98,7 @@ module _ (buffer : List ℕ) (g : Gathered) (t out : List ℕ) (h : Holds buffer
   unfolding gathered_filing filed_gathered filed_line
   long_same n =
       let held : longest_line < g.held = rw h.2 (omega (arith, n)) in
-      let ends : long_outcome g ≡ cond (is_line t) outcome.FieldTooLong outcome.NotALine = ap long_outcome h.2 ∙ marks_kept t in
+      let ends : long_outcome g ≡ cond (is_line t) (Err why.FieldTooLong) (Err why.NotALine) = ap long_outcome h.2 ∙ marks_kept t in
       rw (lt-leb g.held longest_line held, ends, filing_asks t out, long_outcome_lem t n) (refl, sym (none_written (sized record_length out) (is_line t) _ out))
 
   pub as_whole : (gathered_filing buffer g out ≡ line_filing t out) × (filed_gathered buffer g out ≡ filed_line t out)

@@ -1,8 +1,8 @@
 -- The promise of filing a gathered line leaves one answer, and one content of the lent bytes.
+use Rattle.basics.specs.Outcomes.{Outcome}
 use mathlib.Core.Path.{◌≡◌, sym, ◌∙◌}
 use mathlib.Core.List.{List}
 use Prim.Native.Nat.{ℕ}
-use Rattle.basics.specs.declared.Outcome.{Outcome}
 use Rattle.gathering.specs.declared.Gathered.{Gathered}
 use Rattle.gathered_records.specs.Promises.{GatheredFiled}
 

@@ -1,6 +1,6 @@
 -- What filing a gathered line promises, as a relation between what it is given, its answer and what it leaves.
+use Rattle.basics.specs.Outcomes.{Outcome}
 use Rattle.std.specs.Prelude.{ℕ, ◌≡◌, List}
-use Rattle.basics.specs.declared.Outcome.{Outcome}
 use Rattle.gathering.specs.declared.Gathered.{Gathered}
 use Rattle.gathered_records.specs.Calls.{gathered_filing, filed_gathered}
 

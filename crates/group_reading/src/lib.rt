@@ -11,7 +11,7 @@ use days::dates::day_in;
 use distances::{read_ground, read_height, read_radius};
 use formats::Format;
 use frequencies::read_frequency;
-use keeping::{text2, text3, text7, text9, text15, text20, text50};
+use keeping::text;
 use positions::position_in;
 use station_groups::{Antenna, Channel, Coordination, Emission, Site};
 use tenths::read_tenths;
@@ -23,9 +23,9 @@ pub fn channel_in(rec: &[u8]) -> Channel
 {
     let transmit = read_frequency(&rec[0..11], &rec[11..12]);
     let category = rec[12];
-    let class = text2(&rec[13..15]);
-    let service = text2(&rec[15..17]);
-    let users = text2(&rec[17..19]);
+    let class = text(&rec[13..15]);
+    let service = text(&rec[15..17]);
+    let users = text(&rec[17..19]);
     let carrier = rec[19];
     Channel {
         transmit,
@@ -43,8 +43,8 @@ pub fn site_in(rec: &[u8]) -> Site
     ensures { result ≡ (value_of rec.now).site }
 {
     let started = day_in(&rec[20..28]);
-    let name = text20(&rec[28..48]);
-    let country = text3(&rec[48..51]);
+    let name = text(&rec[28..48]);
+    let country = text(&rec[48..51]);
     let position = position_in(&rec[51..66]);
     let radius = read_radius(&rec[66..71]);
     let height = read_height(&rec[71..75]);
@@ -63,7 +63,7 @@ pub fn emission_in(rec: &[u8]) -> Emission
     requires { length rec.now ≡ 219 }
     ensures { result ≡ (value_of rec.now).emission }
 {
-    let designation = text9(&rec[75..84]);
+    let designation = text(&rec[75..84]);
     let power = read_tenths(Format::Power, &rec[84..90]);
     let basis = rec[90];
     let azimuth = read_tenths(Format::Azimuth, &rec[91..96]);
@@ -82,11 +82,11 @@ pub fn antenna_in(rec: &[u8]) -> Antenna
     requires { length rec.now ≡ 219 }
     ensures { result ≡ (value_of rec.now).antenna }
 {
-    let polarisation = text2(&rec[101..103]);
+    let polarisation = text(&rec[101..103]);
     let gain = read_tenths(Format::Gain, &rec[103..107]);
     let ground = read_ground(&rec[107..111]);
-    let horizontal = text7(&rec[111..118]);
-    let vertical = text7(&rec[118..125]);
+    let horizontal = text(&rec[111..118]);
+    let vertical = text(&rec[118..125]);
     Antenna {
         polarisation,
         gain,
@@ -102,11 +102,11 @@ pub fn coordination_in(rec: &[u8]) -> Coordination
     ensures { result ≡ (value_of rec.now).coordination }
 {
     let receive = read_frequency(&rec[125..136], &rec[136..137]);
-    let remarks = text50(&rec[137..187]);
+    let remarks = text(&rec[137..187]);
     let status = rec[187];
     let requested = day_in(&rec[188..196]);
     let coordinated = day_in(&rec[196..204]);
-    let reference = text15(&rec[204..219]);
+    let reference = text(&rec[204..219]);
     Coordination {
         receive,
         remarks,

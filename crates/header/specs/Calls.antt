@@ -1,7 +1,6 @@
 -- Document 01, "Refusal numbers": how the calls on headers end, and what they hand back and leave.
 use Rattle.std.specs.Prelude.{ℕ, List, [], ◌∷◌}
-use Rattle.basics.specs.Outcomes.{if_done, first_refusal, record_test, buffer_test, rule_test}
-use Rattle.basics.specs.declared.Outcome.{Outcome}
+use Rattle.basics.specs.Outcomes.{if_done, first_refusal, record_test, buffer_test, rule_test, Outcome}
 use Rattle.header.specs.Values.{empty_header}
 use Rattle.header.specs.Spelling.{spell_header}
 use Rattle.header.specs.Codes.{header_value, header_code, typed_header_code, filed_header_code}

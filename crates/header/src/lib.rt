@@ -1,8 +1,7 @@
 // A header as typed values.
 #![tactic(auto)]
 
-use days::dates::Day;
-use serials::Serial;
+use days::dates::Date;
 
 pub mod typed;
 
@@ -17,9 +16,9 @@ pub struct Header {
     pub telephone: [u8; 20],
     pub person: [u8; 20],
     pub count: u64,
-    pub date: Day,
+    pub date: Option<Date>,
     pub destination: [u8; 3],
-    pub serial: Serial,
+    pub serial: Option<u64>,
     pub version: [u8; 3],
     pub reserve: [u8; 7],
 }

@@ -16,17 +16,13 @@ use serials::fits_serial;
 fn typed_sender_code(h: Header) -> u8
     ensures { result ≡ first_broken 1 (take 7 (typed_header_rules h)) }
 {
-    let content = h.content;
-    let origin = h.origin;
-    let mail = h.mail;
-    let telephone = h.telephone;
     let rules = [
         fits_whole(2, h.number),
-        is_left_text(&content, 80, Set::Text),
+        is_left_text(&h.content, 80, Set::Text),
         h.letter == b'O',
-        equal(b"AUT", &origin),
-        is_left_text(&mail, 40, Set::Mail),
-        is_left_text(&telephone, 20, Set::Text),
+        equal(b"AUT", &h.origin),
+        is_left_text(&h.mail, 40, Set::Mail),
+        is_left_text(&h.telephone, 20, Set::Text),
         true,
     ];
     first_broken(&rules, 1)
@@ -36,20 +32,14 @@ fn typed_sender_code(h: Header) -> u8
 fn typed_closing_code(h: Header) -> u8
     ensures { result ≡ first_broken 8 (drop 7 (typed_header_rules h)) }
 {
-    let person = h.person;
-    let date = h.date;
-    let destination = h.destination;
-    let serial = h.serial;
-    let version = h.version;
-    let reserve = h.reserve;
     let rules = [
-        is_left_text(&person, 20, Set::Text),
+        is_left_text(&h.person, 20, Set::Text),
         fits_whole(6, h.count),
-        fits_date(date),
-        equal(b"AUT", &destination),
-        fits_serial(serial),
-        equal(b"1.0", &version),
-        equal(b"       ", &reserve),
+        fits_date(h.date),
+        equal(b"AUT", &h.destination),
+        fits_serial(h.serial),
+        equal(b"1.0", &h.version),
+        equal(b"       ", &h.reserve),
     ];
     first_broken(&rules, 8)
 }

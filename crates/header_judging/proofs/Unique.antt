@@ -1,8 +1,8 @@
 -- The promises of judging a header's record leave one answer.
+use Rattle.basics.specs.Outcomes.{Outcome}
 use mathlib.Core.Path.{◌≡◌, sym, ◌∙◌}
 use mathlib.Core.List.{List}
 use Prim.Native.Nat.{ℕ}
-use Rattle.basics.specs.declared.Outcome.{Outcome}
 use Rattle.header_judging.specs.Promises.{HeaderChecked, HeaderFiled}
 
 -- Two answers of `check_header` to one record are equal.

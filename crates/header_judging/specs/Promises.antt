@@ -1,6 +1,6 @@
 -- What judging a header's record promises, as relations between what it is given and its answers.
+use Rattle.basics.specs.Outcomes.{Outcome}
 use Rattle.std.specs.Prelude.{ℕ, ◌≡◌, List}
-use Rattle.basics.specs.declared.Outcome.{Outcome}
 use Rattle.header.specs.Calls.{read_header_outcome, filed_header_outcome}
 
 -- `check_header` on a record: how reading it ends.

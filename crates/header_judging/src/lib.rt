@@ -5,7 +5,7 @@ ghost use Rattle.std.specs.Prelude.{◌≡◌, length};
 ghost use Rattle.header.specs.Codes.{header_code, filed_header_code};
 ghost use Rattle.header_judging.specs.Promises.{HeaderChecked, HeaderFiled};
 
-use basics::Outcome;
+use basics::Refusal;
 use basics::outcomes::judged;
 use closing_judging::closing_code;
 use numerals::amount_in;
@@ -24,11 +24,11 @@ fn header_code(rec: &[u8]) -> u8
 }
 
 // Whether a record of any length can be read as a header: 6, 9 with its code, 1 to 14, or done.
-pub fn check_header(rec: &[u8]) -> Outcome
+pub fn check_header(rec: &[u8]) -> Result<(), Refusal>
     ensures { HeaderChecked rec.now result }
 {
     if rec.len() != 219 {
-        return Outcome::RecordLength;
+        return Err(Refusal::RecordLength);
     }
     judged(header_code(rec))
 }
@@ -49,11 +49,11 @@ pub fn filed_header_code(rec: &[u8], n: usize) -> u8
 }
 
 // Whether a header of any length can stand in a file of n stations: 6, 9 with its code, 1 to 15, or done.
-pub fn check_filed_header(rec: &[u8], n: usize) -> Outcome
+pub fn check_filed_header(rec: &[u8], n: usize) -> Result<(), Refusal>
     ensures { HeaderFiled rec.now n result }
 {
     if rec.len() != 219 {
-        return Outcome::RecordLength;
+        return Err(Refusal::RecordLength);
     }
     judged(filed_header_code(rec, n))
 }

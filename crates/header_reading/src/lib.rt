@@ -5,21 +5,20 @@ ghost use Rattle.std.specs.Prelude.{◌≡◌, length};
 ghost use Rattle.header.specs.Codes.{header_value};
 ghost use Rattle.header_reading.specs.Promises.{HeaderRead};
 
-use basics::Outcome;
-use basics::outcomes::is_done;
+use basics::Refusal;
 use columns::texts::byte;
 use days::dates::day_in;
 use empties::empty_header;
 use header::Header;
 use header_judging::check_header;
-use keeping::{text3, text7, text20, text40, text80};
+use keeping::text;
 use numerals::amount_in;
 use serials::serial_in;
 
 // How reading ended, and the header: the empty one on a refusal.
 #[derive(Clone, Copy)]
 pub struct ReadHeader {
-    pub outcome: Outcome,
+    pub outcome: Result<(), Refusal>,
     pub header: Header,
 }
 
@@ -29,18 +28,18 @@ fn header_in(rec: &[u8]) -> Header
     ensures { result ≡ header_value rec.now }
 {
     let number = amount_in(&rec[0..2]);
-    let content = text80(&rec[2..82]);
+    let content = text(&rec[2..82]);
     let letter = byte(&rec[82..83], 0);
-    let origin = text3(&rec[83..86]);
-    let mail = text40(&rec[86..126]);
-    let telephone = text20(&rec[126..146]);
-    let person = text20(&rec[166..186]);
+    let origin = text(&rec[83..86]);
+    let mail = text(&rec[86..126]);
+    let telephone = text(&rec[126..146]);
+    let person = text(&rec[166..186]);
     let count = amount_in(&rec[186..192]);
     let date = day_in(&rec[192..200]);
-    let destination = text3(&rec[200..203]);
+    let destination = text(&rec[200..203]);
     let serial = serial_in(&rec[203..209]);
-    let version = text3(&rec[209..212]);
-    let reserve = text7(&rec[212..219]);
+    let version = text(&rec[209..212]);
+    let reserve = text(&rec[212..219]);
     Header {
         number,
         content,
@@ -63,7 +62,7 @@ pub fn read_header(rec: &[u8]) -> ReadHeader
     ensures { HeaderRead rec.now result }
 {
     let outcome = check_header(rec);
-    if is_done(outcome) {
+    if outcome.is_ok() {
         return ReadHeader {
             outcome,
             header: header_in(rec),

@@ -1,6 +1,6 @@
 -- What writing a header promises, as a relation between what it is given, its answer and what it leaves in the lent bytes.
+use Rattle.basics.specs.Outcomes.{Outcome}
 use Rattle.std.specs.Prelude.{ℕ, ◌≡◌, List}
-use Rattle.basics.specs.declared.Outcome.{Outcome}
 use Rattle.header.specs.Calls.{write_header_outcome, written_header}
 use Rattle.header.specs.declared.Header.{Header}
 

@@ -14,11 +14,9 @@ pub(crate) fn put_file(h: Header, s: &mut [u8])
     ensures { s.new ≡ joined (take 4 (header_pieces h)) }
 {
     put_whole(&mut s[0..2], h.number);
-    let content = h.content;
-    write_text(&mut s[2..82], &content);
+    write_text(&mut s[2..82], &h.content);
     write_byte(&mut s[82..83], h.letter);
-    let origin = h.origin;
-    write_text(&mut s[83..86], &origin);
+    write_text(&mut s[83..86], &h.origin);
 }
 
 // Fields 12 to 14, columns 204 to 219: the file number, the version and the reserve.
@@ -26,10 +24,7 @@ pub(crate) fn put_end(h: Header, s: &mut [u8])
     requires { length s.old ≡ 16 }
     ensures { s.new ≡ joined (drop 11 (header_pieces h)) }
 {
-    let serial = h.serial;
-    put_serial(&mut s[0..6], serial);
-    let version = h.version;
-    write_text(&mut s[6..9], &version);
-    let reserve = h.reserve;
-    write_text(&mut s[9..16], &reserve);
+    put_serial(&mut s[0..6], h.serial);
+    write_text(&mut s[6..9], &h.version);
+    write_text(&mut s[9..16], &h.reserve);
 }

@@ -7,7 +7,7 @@ ghost use Rattle.header.specs.Codes.{typed_header_code};
 ghost use Rattle.header_writing.specs.Promises.{HeaderWritten};
 
 use crate::groups::{put_end, put_file};
-use basics::Outcome;
+use basics::Refusal;
 use header::Header;
 use header::typed::typed_header_code;
 use sender_writing::{put_sender, put_sending};
@@ -26,16 +26,16 @@ pub fn put_header(h: Header, s: &mut [u8])
 }
 
 // Writes a header into a lent buffer; it is refused where that has not 219 bytes, or the header breaks a rule, and then nothing is written.
-pub fn write_header(h: Header, buffer: &mut [u8]) -> Outcome
+pub fn write_header(h: Header, buffer: &mut [u8]) -> Result<(), Refusal>
     ensures { HeaderWritten h buffer.old result buffer.new }
 {
     if buffer.len() != 219 {
-        return Outcome::BufferLength;
+        return Err(Refusal::BufferLength);
     }
     let code = typed_header_code(h);
     if code != 0 {
-        return Outcome::RuleBroken(code);
+        return Err(Refusal::RuleBroken(code));
     }
     put_header(h, buffer);
-    Outcome::Done
+    Ok(())
 }

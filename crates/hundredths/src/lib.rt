@@ -7,13 +7,6 @@ ghost use Rattle.hundredths.specs.Hundredths.{step_of, hundredths_of, lower_of, 
 
 use frequencies::{Frequency, Hertz};
 
-// A frequency in hundredths of a hertz, or none.
-#[derive(Clone, Copy)]
-pub enum Hundredths {
-    Blank,
-    Filled(u64),
-}
-
 // How many hundredths of a hertz a step of the field is.
 fn step_of(unit: Hertz) -> u64
     ensures { result ≡ step_of unit }
@@ -26,56 +19,51 @@ fn step_of(unit: Hertz) -> u64
 }
 
 // A frequency that can stand, in hundredths of a hertz.
-pub fn hundredths_of(v: Frequency) -> Hundredths
+pub fn hundredths_of(v: Option<Frequency>) -> Option<u64>
     requires { frequency_fits v ≡ true }
     ensures { result ≡ hundredths_of v }
 {
-    match v {
-        Frequency::Blank => Hundredths::Blank,
-        Frequency::Filled(n, unit) => {
-            let step = step_of(unit);
-            Hundredths::Filled(n * step)
-        }
-    }
+    let f = v?;
+    Some(f.amount * step_of(f.unit))
 }
 
 // The lower of v and a frequency that there may be.
-pub fn lower(v: u64, a: Hundredths) -> Hundredths
+pub fn lower(v: u64, a: Option<u64>) -> Option<u64>
     ensures { result ≡ lower_of v a }
 {
     match a {
-        Hundredths::Blank => Hundredths::Filled(v),
-        Hundredths::Filled(u) => {
+        None => Some(v),
+        Some(u) => {
             if v < u {
-                return Hundredths::Filled(v);
+                return Some(v);
             }
-            Hundredths::Filled(u)
+            Some(u)
         }
     }
 }
 
 // The higher of v and a frequency that there may be.
-pub fn higher(v: u64, a: Hundredths) -> Hundredths
+pub fn higher(v: u64, a: Option<u64>) -> Option<u64>
     ensures { result ≡ higher_of v a }
 {
     match a {
-        Hundredths::Blank => Hundredths::Filled(v),
-        Hundredths::Filled(u) => {
+        None => Some(v),
+        Some(u) => {
             if u < v {
-                return Hundredths::Filled(v);
+                return Some(v);
             }
-            Hundredths::Filled(u)
+            Some(u)
         }
     }
 }
 
 // The same, put together anew. A copy would take along the bytes between the case and the number, which were never written together,
 // and wait for them.
-pub fn anew(a: Hundredths) -> Hundredths
+pub fn anew(a: Option<u64>) -> Option<u64>
     ensures { result ≡ a }
 {
     match a {
-        Hundredths::Blank => Hundredths::Blank,
-        Hundredths::Filled(v) => Hundredths::Filled(v),
+        None => None,
+        Some(v) => Some(v),
     }
 }

@@ -1,43 +1,59 @@
-// Standard input read whole, so that a read that fails is told from the end of the input.
+// Standard input read whole, so that a read that fails is told from the end of the input; and what is made of it printed.
 #![tactic(auto)]
 
-ghost use Rattle.std.specs.Prelude.{◌≤◌, length};
+ghost use Rattle.std.specs.Prelude.{◌≡◌, ◌≤◌, length, MatchResult};
 
+use files::lengths::MOST_BYTES;
 use std::io::Read;
 
-// How many bytes came, and whether that was all: the input ended or the room is full, and no read failed.
-#[derive(Clone, Copy)]
-pub struct Taken {
+// The bytes of the longest file and one more, so that a longer one is told from it.
+const ROOM: usize = MOST_BYTES + 1;
+
+// A read failed, after so many bytes.
+#[derive(Clone, Copy, Debug, PartialEq, Eq)]
+pub struct NotRead {
     pub bytes: usize,
-    pub whole: bool,
 }
 
-// Reads an input into the lent bytes, up to its end or theirs.
-pub fn read_input<R: Read>(input: &mut R, space: &mut [u8]) -> Taken
-    ensures { result.bytes ≤ length space.old }
+// Reads an input into the lent bytes, up to its end or theirs, and answers how many bytes came.
+pub fn read_input<R: Read>(input: &mut R, space: &mut [u8]) -> Result<usize, NotRead>
+    ensures { MatchResult result (λ bytes. bytes ≤ length space.old) (λ e. e.bytes ≤ length space.old) }
 {
-    let mut at: usize = 0;
+    // A turn goes on by as many bytes as came, so that no index is counted; a range is no plainer.
+    let mut at = 0;
     while at < space.len() {
-        let rest = &mut space[at..];
-        let n = match input.read(rest) {
+        let n = match input.read(&mut space[at..]) {
             Ok(n) => n,
-            Err(_) => {
-                return Taken {
-                    bytes: at,
-                    whole: false,
-                };
-            }
+            Err(_) => return Err(NotRead { bytes: at }),
         };
         if n == 0 {
-            return Taken {
-                bytes: at,
-                whole: true,
-            };
+            return Ok(at);
         }
         at += n;
     }
-    Taken {
-        bytes: at,
-        whole: true,
+    Ok(at)
+}
+
+// Room for so many bytes.
+pub fn room<const N: usize>() -> [u8; N]
+    ensures { N ≡ length result }
+{
+    [0; N]
+}
+
+// Reads at most that much of a file and has it answered by a function that tells whether it could print all of it; or says what could not be done.
+pub fn answer_input<R: Read, F: FnOnce(&[u8]) -> bool>(input: &mut R, print: F)
+    requires { F.IsAlwaysCallable print }
+{
+    let mut file = room::<ROOM>();
+    let n = match read_input(input, &mut file) {
+        Ok(n) => n,
+        Err(_) => {
+            io::write_all(2, b"not read\n");
+            return;
+        }
+    };
+    if !print(&file[..n]) {
+        io::write_all(2, b"not written\n");
     }
 }

@@ -48,16 +48,14 @@ pub fn put_line(rec: &[u8], out: &mut [u8]) -> usize
     requires { (length rec.now ≡ 219) × (length out.old ≡ 249) }
     ensures { (result ≤ 249) × (take result out.new ≡ joined_line (trimmed_fields station_sides (fields_of rec.now))) }
 {
-    let mut k: usize = 0;
-    let mut column: usize = 0;
-    let mut at: usize = 0;
-    while k < 30 {
+    let mut column = 0;
+    let mut at = 0;
+    for k in 0..30 {
         let end = column + width_after(k);
         let text = outgoing(&rec[column..end], side_after(k));
         put_marked(out, at, text, mark_after(k));
         at = at + text.len() + 1;
         column = end;
-        k += 1;
     }
     at
 }

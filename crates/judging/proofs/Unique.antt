@@ -1,8 +1,8 @@
 -- The promise of the call on a station's record leaves one answer.
+use Rattle.basics.specs.Outcomes.{Outcome}
 use mathlib.Core.Path.{◌≡◌, sym, ◌∙◌}
 use mathlib.Core.List.{List}
 use Prim.Native.Nat.{ℕ}
-use Rattle.basics.specs.declared.Outcome.{Outcome}
 use Rattle.judging.specs.Promises.{StationChecked}
 
 -- Two answers of `check_station` to one record are equal.

@@ -1,6 +1,6 @@
 -- What the call on a station's record promises, as a relation between what it is given and its answer.
+use Rattle.basics.specs.Outcomes.{Outcome}
 use Rattle.std.specs.Prelude.{ℕ, ◌≡◌, List}
-use Rattle.basics.specs.declared.Outcome.{Outcome}
 use Rattle.station.specs.Calls.{read_outcome}
 
 -- `check_station` on a record: how reading it ends.

@@ -10,7 +10,7 @@ ghost use Rattle.station.specs.Rules.{field_rules};
 ghost use Rattle.judging.specs.Promises.{StationChecked};
 
 use asked_fields::{blank_where, filled_where};
-use basics::Outcome;
+use basics::Refusal;
 use basics::outcomes::judged;
 use basics::rules::first_broken;
 use between::never_both;
@@ -53,11 +53,11 @@ pub fn station_code(rec: &[u8]) -> u8
 }
 
 // Whether a record of any length can be read: 6, 9 with its code, or done.
-pub fn check_station(rec: &[u8]) -> Outcome
+pub fn check_station(rec: &[u8]) -> Result<(), Refusal>
     ensures { StationChecked rec.now result }
 {
     if rec.len() != 219 {
-        return Outcome::RecordLength;
+        return Err(Refusal::RecordLength);
     }
     judged(station_code(rec))
 }

@@ -1,11 +1,11 @@
 -- A line that is read as its record is has the flaw of its record, and one that is refused before has none.
+use Rattle.std.specs.Prelude.{Err}
 use mathlib.Core.Path.{◌≡◌, refl, ap, ◌∙◌}
 use mathlib.Core.Bool.{true, false}
 use mathlib.Core.List.{List}
 use Prim.Native.Nat.{ℕ}
-use Rattle.basics.specs.Outcomes.{code_with}
-use Rattle.basics.specs.declared.Outcome.{Outcome}
-use Rattle.basics.specs.declared.Outcome.TheVariants as outcome
+use Rattle.basics.specs.Outcomes.{code_with, Outcome}
+use Rattle.basics.specs.declared.Refusal.TheVariants as why
 use Rattle.flaws.specs.declared.Flaw.{Flaw}
 use Rattle.flaws.specs.declared.Flaw.TheVariants as flaw
 use Rattle.station.specs.Places.{station_places}
@@ -20,12 +20,12 @@ use Rattle.line_flaws.specs.Calls.{flaw_of_line}
 
 module _ (t : List ℕ) where
   -- What is not a line,
-  pub no_line : is_line t ≡ false → (outcome.NotALine ≡ line_outcome t) × (flaw.None ≡ flaw_of_line t)
+  pub no_line : is_line t ≡ false → ((Err why.NotALine) ≡ line_outcome t) × (flaw.None ≡ flaw_of_line t)
   unfolding flaw_of_line record_flaw code_with
   no_line e = let o = (not_a_line t e).0 in (o, ap (λ (x : Outcome). record_flaw (record_of t) (code_with x)) o)
 
   -- a line with a field that is too long,
-  pub line_long : is_line t ≡ true → none_longer station_places (line_fields t) ≡ false → (outcome.FieldTooLong ≡ line_outcome t) × (flaw.None ≡ flaw_of_line t)
+  pub line_long : is_line t ≡ true → none_longer station_places (line_fields t) ≡ false → ((Err why.FieldTooLong) ≡ line_outcome t) × (flaw.None ≡ flaw_of_line t)
   unfolding flaw_of_line record_flaw code_with
   line_long e l = let o = (long_field t e l).0 in (o, ap (λ (x : Outcome). record_flaw (record_of t) (code_with x)) o)
 

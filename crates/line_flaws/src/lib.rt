@@ -3,7 +3,7 @@
 
 ghost use Rattle.line_flaws.specs.Promises.{LineExplained};
 
-use basics::Outcome;
+use basics::Refusal;
 use filling::put_fields;
 use flaws::Flaw;
 use splitting::lines::is_line;
@@ -15,14 +15,14 @@ pub fn explain_line(line: &[u8]) -> Explained
 {
     if !is_line(line) {
         return Explained {
-            outcome: Outcome::NotALine,
+            outcome: Err(Refusal::NotALine),
             flaw: Flaw::None,
         };
     }
     let mut rec = [b' '; 219];
     if !put_fields(line, &mut rec) {
         return Explained {
-            outcome: Outcome::FieldTooLong,
+            outcome: Err(Refusal::FieldTooLong),
             flaw: Flaw::None,
         };
     }

@@ -4,30 +4,18 @@
 ghost use Rattle.std.specs.Prelude.{◌≡◌, ◌+◌, min, length};
 ghost use Rattle.gathering.specs.Gathering.{last_after, holding};
 
-use columns::texts::byte;
-
 // The sum of two numbers, or the limit where the sum is above it.
 pub fn sum_to(most: usize, a: usize, b: usize) -> usize
     ensures { result ≡ min most (a + b) }
 {
-    if most <= a {
-        return most;
-    }
-    if most - a <= b {
-        return most;
-    }
-    a + b
+    a.saturating_add(b).min(most)
 }
 
 // The last byte of a line after a part of it; one without bytes changes nothing.
 pub fn last_after(last: u8, part: &[u8]) -> u8
     ensures { result ≡ last_after last part.now }
 {
-    let n = part.len();
-    if n == 0 {
-        return last;
-    }
-    byte(part, n - 1)
+    part.last().copied().unwrap_or(last)
 }
 
 // Puts a part behind the bytes that are held, as far as there is room for it, and answers how many are held then.

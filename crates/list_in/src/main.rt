@@ -10,7 +10,7 @@ ghost use Rattle.gathering.specs.Gathering.{Follows};
 ghost use Rattle.gathering.specs.Promises.{Begun};
 
 use crate::telling::tell_reason;
-use basics::outcomes::{code_with, is_done, refusal_number};
+use basics::outcomes::{code_with, refusal_number};
 use files::lengths::MOST_STATIONS;
 use gathered_records::file_gathered;
 use gathering::Gathered;
@@ -18,24 +18,21 @@ use gathering::lines::nothing;
 use line_ends::line_end;
 use line_gathering::gather;
 use std::io::Read;
+use std::ops::ControlFlow;
 
-// How far the list is read: what is kept of the line that is gathered, how many lines have ended, how many of them were
-// written as records and refused, and whether more may come.
+// How far the list is read: what is kept of the line that is gathered, how many lines have ended, and how many of them were
+// written as records and refused.
 #[derive(Clone, Copy)]
 struct Progress {
     gathered: Gathered,
     lines: u64,
     records: u64,
     refused: u64,
-    more: bool,
 }
 
 // One more, as far as numbers go.
 fn next(n: u64) -> u64 {
-    if n == u64::MAX {
-        return n;
-    }
-    n + 1
+    n.saturating_add(1)
 }
 
 // Names a line that is refused, with the code that comes with refusal 9.
@@ -103,7 +100,7 @@ fn end_line(line: &[u8; 250], progress: Progress) -> Progress
     let mut record = [b' '; 219];
     let gathered = progress.gathered;
     let outcome = file_gathered(line, gathered, &mut record);
-    if !is_done(outcome) {
+    if outcome.is_err() {
         return refuse(line, progress, refusal_number(outcome), code_with(outcome));
     }
     if MOST_STATIONS as u64 <= progress.records {
@@ -133,6 +130,7 @@ fn take_piece(line: &mut [u8; 250], progress: Progress, piece: &[u8]) -> Progres
     ensures { Follows line.old progress.gathered line.new result.gathered (λ p. open_line p piece.now) }
 {
     let mut further = progress;
+    // A turn takes a line of any length, so that no index is counted; a range is no plainer.
     let mut at: usize = 0;
     while at < piece.len() {
         let rest = &piece[at..];
@@ -151,36 +149,31 @@ fn break_off(progress: Progress) -> Progress {
         gathered: nothing(),
         lines,
         refused: next(progress.refused),
-        more: false,
         ..progress
     }
 }
 
-// Reads the next piece and takes it in.
-fn read_piece<R: Read>(input: &mut R, line: &mut [u8; 250], progress: Progress) -> Progress {
+// Reads the next piece and takes it in, where more may come.
+fn read_piece<R: Read>(
+    input: &mut R,
+    line: &mut [u8; 250],
+    progress: Progress,
+) -> ControlFlow<Progress, Progress> {
     let mut space = io::buffer();
-    let n = match input.read(&mut space) {
-        Ok(n) => n,
-        Err(_) => return break_off(progress),
-    };
-    if n == 0 {
-        return Progress {
-            more: false,
-            ..progress
-        };
+    match input.read(&mut space) {
+        Ok(0) => ControlFlow::Break(progress),
+        Ok(n) => ControlFlow::Continue(take_piece(line, progress, &space[..n])),
+        Err(_) => ControlFlow::Break(break_off(progress)),
     }
-    take_piece(line, progress, &space[..n])
 }
 
-// Reads all pieces. Nothing says that the input ends, so the turns are counted down from a number that no run uses up.
+// Reads all pieces. Nothing says that the input ends, so the turns are as many as no run uses up.
 fn read_all<R: Read>(input: &mut R, line: &mut [u8; 250], progress: Progress) -> Progress {
     let mut further = progress;
-    let mut turns = u64::MAX;
-    while 0 < turns {
-        turns -= 1;
-        further = read_piece(input, line, further);
-        if !further.more {
-            return further;
+    for _ in 0..u64::MAX {
+        match read_piece(input, line, further) {
+            ControlFlow::Continue(more) => further = more,
+            ControlFlow::Break(read) => return read,
         }
     }
     further
@@ -202,7 +195,6 @@ fn main(rt: HostRuntime) {
         lines: 0,
         records: 0,
         refused: 0,
-        more: true,
     };
     let read = read_all(&mut rt.stdin(), &mut line, start);
     let done = end_list(&line, read);

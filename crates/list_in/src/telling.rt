@@ -1,10 +1,9 @@
 // What the library tells of a line that is refused: with 9 the kind of what is wrong, with 10 its marks, with 11 its first field that is too long.
-use columns::texts::trimmed_length;
 use faults::long_fields::long_field;
 use faults::marking::line_marks;
 use gathering::Gathered;
 use line_flaws::explain_line;
-use wording::{field_name, flaw_words};
+use wording::{field_text, flaw_text};
 
 // The bytes of a line that are held.
 fn held_part(line: &[u8], held: usize) -> &[u8] {
@@ -47,12 +46,6 @@ fn tell_marks(line: &[u8; 250], gathered: Gathered) {
     io::write_all(2, b" line feed no");
 }
 
-// Says a text without the spaces behind it.
-fn tell_trimmed(text: &[u8]) {
-    let n = trimmed_length(text);
-    io::write_all(2, &text[..n]);
-}
-
 // Whether a line is held to its end: it is shorter than the buffer, or ends with it.
 fn held_whole(line: &[u8; 250], held: usize) -> bool {
     if held < 250 {
@@ -68,8 +61,7 @@ fn tell_field(line: &[u8; 250], held: usize) {
     io::write_all(2, b" field ");
     io::print_decimal(2, number as u64);
     io::write_all(2, b" ");
-    let name = field_name(number);
-    tell_trimmed(&name);
+    io::write_all(2, field_text(number).as_bytes());
     tell_count(b" length ", field.length, held_whole(line, held));
     tell_count(b" most ", field.most, true);
 }
@@ -78,8 +70,7 @@ fn tell_field(line: &[u8; 250], held: usize) {
 fn tell_kind(line: &[u8; 250], held: usize) {
     let told = explain_line(held_part(line, held));
     let flaw = told.flaw;
-    let words = flaw_words(flaw);
-    tell_trimmed(&words);
+    io::write_all(2, flaw_text(flaw).as_bytes());
 }
 
 // Says why a line is refused with 9, 10 or 11.

@@ -9,7 +9,6 @@ use lib.Dec.{eqb}
 use lib.ListN.{length}
 use borrow.Author.Tests.{eqb-true}
 use Rattle.columns.specs.Texts.{how_many}
-use Rattle.basics.specs.declared.Outcome.TheVariants as outcome
 use Rattle.station.specs.Codes.{value_of, station_code}
 use Rattle.station.proofs.RoundTrip.{read_fits}
 use Rattle.files.specs.Files.{stations, record_at}

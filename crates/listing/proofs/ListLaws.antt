@@ -1,4 +1,5 @@
 -- What a list has for a station, from how listing its record ended.
+use Rattle.std.specs.Prelude.{Ok, Err, Result}
 use mathlib.Core.Path.{◌≡◌, refl, sym, ap, subst, ◌∙◌}
 use mathlib.Core.Bool.{Bool, true, false}
 use mathlib.Core.List.{List, ◌++◌}
@@ -13,11 +14,12 @@ use Rattle.station.proofs.RoundTrip.{read_fits}
 use Rattle.files.specs.Files.{record_at}
 use Rattle.files.proofs.FileLaws.{record_wide}
 use Rattle.semicolons.specs.Lines.{line_of}
-use Rattle.basics.specs.Outcomes.{refusal, code_with, if_done, first_refusal}
+use Rattle.basics.specs.Outcomes.{refusal, code_with, if_done, first_refusal, ends}
 use Rattle.lists.specs.Calls.{record_listing, listed_length, listed_record}
 use Rattle.lists.specs.Promises.{RecordListed}
-use Rattle.basics.specs.declared.Outcome.TheVariants as outcome
-use Rattle.lists.specs.declared.WrittenLine.{WrittenLine}
+use Rattle.basics.specs.declared.Refusal.TheVariants as why
+use Rattle.std.specs.Result.{result_unwrap_or}
+use Rattle.basics.specs.declared.Refusal.{Refusal}
 use Rattle.lists.proofs.RoundTrip.{line_size}
 use Rattle.printing.specs.Lines.{broken_line}
 use Rattle.listing.specs.Lists.{entry, entry_of}
@@ -31,14 +33,14 @@ module _ (r buffer : List ℕ) (wide : length r ≡ record_length) (room : 249 �
   line-room z = line_size (value_of r) (read_fits r wide z)
 
   -- so that it is listed,
-  listed-whole : station_code r ≡ 0 → record_listing r buffer ≡ outcome.Done
+  listed-whole : station_code r ≡ 0 → record_listing r buffer ≡ Ok tt
   unfolding record_listing first_refusal
   listed-whole z =
       let fits : length (line_of (value_of r)) ≤ length buffer = omega (arith, line-room z) in
       rw (eq-eqb (length r) record_length wide, z, le-leb (length (line_of (value_of r))) (length buffer) fits)
 
   -- and any other is refused with its code.
-  listed-broken : eqb (station_code r) 0 ≡ false → record_listing r buffer ≡ outcome.RuleBroken (station_code r)
+  listed-broken : eqb (station_code r) 0 ≡ false → record_listing r buffer ≡ Err (why.RuleBroken (station_code r))
   unfolding record_listing first_refusal
   listed-broken z = rw (eq-eqb (length r) record_length wide, z)
 
@@ -69,8 +71,8 @@ module _ (r buffer : List ℕ) (wide : length r ≡ record_length) (room : 249 �
         (rw z (line-room z), rw (listed-whole z, z), rw (listed-whole z, z))
 
 -- Station k of a file, its record listed into the lent bytes from start on.
-module _ (file out : List ℕ) (start k : ℕ) (inside : 219 * k + 219 ≤ length file) (room : start + 249 ≤ length out) (r part : List ℕ) (answer : WrittenLine) (c : ℕ)
-    (found : r ≡ record_at file k) (is : RecordListed r (rest_of out start) answer part) (told : c ≡ code_with answer.outcome) where
+module _ (file out : List ℕ) (start k : ℕ) (inside : 219 * k + 219 ≤ length file) (room : start + 249 ≤ length out) (r part : List ℕ) (answer : Result ℕ Refusal) (c : ℕ)
+    (found : r ≡ record_at file k) (is : RecordListed r (rest_of out start) answer part) (told : c ≡ code_with (ends answer)) where
   -- the record is whole
   r_wide : length r ≡ record_length
   r_wide = ap length found ∙ record_wide file k inside
@@ -96,9 +98,9 @@ module _ (file out : List ℕ) (start k : ℕ) (inside : 219 * k + 219 ≤ lengt
       rw (own, e.1) (subst (λ (o : List ℕ). Appended o start (broken_line k c) after end) kept s)
 
   -- else its line was.
-  pub line-put : c ≡ 0 → Appended out start (entry_of file k) (with_rest out start part) (start + answer.length) × (answer.length ≤ 249)
+  pub line-put : c ≡ 0 → Appended out start (entry_of file k) (with_rest out start part) (start + result_unwrap_or answer 0) × (result_unwrap_or answer 0 ≤ 249)
   line-put h =
       let e = line-entry r (rest_of out start) r_wide line_fits k c c_told h in
-      let l : answer.length ≡ length (entry k r) = is.1 ∙ e.1 in
+      let l : result_unwrap_or answer 0 ≡ length (entry k r) = is.1 ∙ e.1 in
       let p : part ≡ entry k r ++ drop (length (entry k r)) (rest_of out start) = is.2 ∙ e.2 in
       (rw (own, l, p) (rest_written out start (entry k r) (omega (arith, e.0))), rw l e.0)

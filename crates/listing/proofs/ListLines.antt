@@ -1,5 +1,6 @@
 -- Line k of a list is what it has for station k: each of them has one line feed, the last byte. The line of a station that breaks a rule
 -- is none that can be read.
+use Rattle.std.specs.Prelude.{Err}
 use mathlib.Core.Path.{◌≡◌, refl, sym, ap, ◌∙◌}
 use mathlib.Core.Logic.{⊎_elim}
 use mathlib.Core.Bool.{Bool, true, false, ◌&&◌}
@@ -14,7 +15,7 @@ use lib.ListN.{length}
 use borrow.Author.Tests.{eqb-true}
 use Rattle.columns.specs.Texts.{bytes, every, how_many}
 use Rattle.columns.proofs.TextLaws.{and_split}
-use Rattle.basics.specs.declared.Outcome.TheVariants as outcome
+use Rattle.basics.specs.declared.Refusal.TheVariants as why
 use Rattle.station.specs.Codes.{value_of, station_code}
 use Rattle.station.proofs.RoundTrip.{read_fits}
 use Rattle.files.specs.Files.{stations, record_at}
@@ -67,7 +68,7 @@ module _ (k c : ℕ) where
   no_semicolon = rw broken_field (semicolons front [] (front_plain, tt))
 
   -- so that it cannot be read as one,
-  pub broken_refused : line_outcome (broken_line k c) ≡ outcome.NotALine
+  pub broken_refused : line_outcome (broken_line k c) ≡ Err why.NotALine
   unfolding line_outcome is_line first_refusal
   broken_refused = rw no_semicolon
 

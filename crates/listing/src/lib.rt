@@ -8,7 +8,7 @@ ghost use Rattle.listing.specs.Lists.{entry_of};
 ghost use Rattle.printing.specs.Promises.{Appended};
 ghost use Rattle.listing.specs.Promises.{ListWritten};
 
-use basics::outcomes::{code_with, is_done, refusal_number};
+use basics::outcomes::{code_with, ended, refusal_number};
 use files::lengths::{check_file, record_in, stations_in};
 use lines_out::record_to_line;
 use printing::lines::{put_broken, put_refused};
@@ -22,12 +22,11 @@ fn put_entry(out: &mut [u8], start: usize, file: &[u8], i: usize) -> usize
 {
     let k = i + 1;
     let written = record_to_line(record_in(file, k), &mut out[start..]);
-    let outcome = written.outcome;
-    let code = code_with(outcome);
+    let code = code_with(ended(written));
     if code > 0 {
         return put_broken(out, start, k as u16, code);
     }
-    start + written.length
+    start + written.unwrap_or(0)
 }
 
 // Puts in what the list has for each of n stations, and answers where it ends.
@@ -36,10 +35,8 @@ fn put_entries(out: &mut [u8], file: &[u8], n: usize) -> usize
     ensures { Appended out.old 0 (rows (entry_of file.now) n) out.new result }
 {
     let mut end = 0;
-    let mut i = 0;
-    while i < n {
+    for i in 0..n {
         end = put_entry(out, end, file, i);
-        i += 1;
     }
     end
 }
@@ -49,7 +46,7 @@ pub fn write_list(file: &[u8], out: &mut [u8; 74202]) -> usize
     ensures { ListWritten file.now out.old result out.new }
 {
     let outcome = check_file(file);
-    if !is_done(outcome) {
+    if outcome.is_err() {
         return put_refused(out, 0, refusal_number(outcome));
     }
     put_entries(out, file, stations_in(file))

@@ -1,4 +1,5 @@
 -- How listing a record and filing a line end, by the tests that they pass.
+use Rattle.std.specs.Prelude.{Err}
 use mathlib.Core.Path.{◌≡◌, refl, sym, ap, ◌∙◌}
 use mathlib.Core.Bool.{true, false}
 use mathlib.Core.List.{List, [], ◌∷◌}
@@ -7,9 +8,8 @@ use lib.Dec.{eqb}
 use lib.ListN.{length}
 use borrow.Author.Tests.{eq-eqb, ne_eqb}
 use Rattle.basics.specs.Fields.{record_length}
-use Rattle.basics.specs.Outcomes.{refusal, if_done, Test, first_refusal, record_test, rule_test}
-use Rattle.basics.specs.declared.Outcome.{Outcome}
-use Rattle.basics.specs.declared.Outcome.TheVariants as outcome
+use Rattle.basics.specs.Outcomes.{refusal, if_done, Test, first_refusal, record_test, rule_test, Outcome}
+use Rattle.basics.specs.declared.Refusal.TheVariants as why
 use Rattle.basics.proofs.RefusalLaws.{done, if_done_lem, if_refused, passes, ended-there}
 use Rattle.basics.proofs.CallLaws.{accepted}
 use Rattle.station.specs.Codes.{value_of, station_code, typed_code}
@@ -42,7 +42,7 @@ module _ (r buffer : List ℕ) where
     module _ (d : done o ≡ true) where
       pub taken : (length r ≡ record_length) × (station_code r ≡ 0)
       unfolding read_outcome refusal
-      taken = accepted r (station_code r) outcome.RecordLength refl (ap done (sym eo) ∙ d)
+      taken = accepted r (station_code r) (Err why.RecordLength) refl (ap done (sym eo) ∙ d)
 
       pub value_fits : typed_code (value_of r) ≡ 0
       value_fits = read_fits r taken.0 taken.1
@@ -60,7 +60,7 @@ module _ (t out : List ℕ) where
   Files answer after = (answer ≡ line_filing t out) × (after ≡ filed_line t out)
 
   -- Bytes of another length are refused,
-  pub not_the_length : (length out ≡ record_length → ⊥) → Files outcome.BufferLength out
+  pub not_the_length : (length out ≡ record_length → ⊥) → Files (Err why.BufferLength) out
   unfolding line_filing filed_line first_refusal if_done refusal
   not_the_length n =
       let z : eqb (length out) record_length ≡ false = ne_eqb (length out) record_length n in
@@ -70,7 +70,7 @@ module _ (t out : List ℕ) where
     -- and else filing ends as reading does:
     ends : o ≡ line_filing t out
     unfolding line_filing line_outcome
-    ends = eo ∙ sym (passes outcome.BufferLength (line_tests t) (rw (eq-eqb (length out) record_length n)))
+    ends = eo ∙ sym (passes (Err why.BufferLength) (line_tests t) (rw (eq-eqb (length out) record_length n)))
 
     -- a line that is refused leaves them as they were,
     pub line_refused : done o ≡ false → Files o out

@@ -1,4 +1,5 @@
 -- A station and its line: what is written is read back.
+use Rattle.std.specs.Prelude.{Ok, Err}
 use mathlib.Core.Path.{◌≡◌, refl, sym, ap, ◌∙◌}
 use mathlib.Core.Bool.{Bool, true, false, not, cond}
 use mathlib.Core.List.{List, [], ◌∷◌, ◌++◌}
@@ -27,7 +28,7 @@ use Rattle.semicolons.specs.Fields.{station_sides, trimmed_fields, none_longer}
 use Rattle.semicolons.specs.Lines.{is_semicolon, is_feed, joined_line, line_of, line_fields, last_byte, is_line, longest_line, record_of}
 use Rattle.basics.specs.Outcomes.{refusal, if_done, first_refusal}
 use Rattle.lists.specs.Calls.{line_outcome, station_in_line, write_line_outcome, line_length, written_line}
-use Rattle.basics.specs.declared.Outcome.TheVariants as outcome
+use Rattle.basics.specs.declared.Refusal.TheVariants as why
 use Rattle.semicolons.proofs.LineLaws.{AllPlain, split-joined, semicolons, one_feed, feed_last}
 use Rattle.semicolons.proofs.PieceLaws.{Pieces, pieces_wide, pieces_plain, pieces_short, pieces_back}
 use Rattle.semicolons.proofs.KindPieces.{table_pieces}
@@ -103,7 +104,7 @@ spelled_own s z r e =
     (ap typed_code v ∙ z, e ∙ ap spell_station (sym v), v)
 
 -- so a station that breaks no rule, written as a line, is not refused,
-pub line-done : (s : Station) → typed_code s ≡ 0 → line_outcome (line_of s) ≡ outcome.Done
+pub line-done : (s : Station) → typed_code s ≡ 0 → line_outcome (line_of s) ≡ Ok tt
 unfolding line_outcome first_refusal
 line-done s e =
     let h = values_hold s e in
@@ -121,7 +122,7 @@ one_line s t e f g = sym (line_back s e) ∙ ap station_in_line g ∙ line_back 
 -- ---- what writing leaves
 
 -- A station that breaks no rule is written into a buffer that is as long as its line or longer,
-pub write_done : (s : Station) (buffer : List ℕ) → typed_code s ≡ 0 → length (line_of s) ≤ length buffer → write_line_outcome s buffer ≡ outcome.Done
+pub write_done : (s : Station) (buffer : List ℕ) → typed_code s ≡ 0 → length (line_of s) ≤ length buffer → write_line_outcome s buffer ≡ Ok tt
 unfolding write_line_outcome first_refusal
 write_done s buffer e n = rw (e, le-leb (length (line_of s)) (length buffer) n)
 
@@ -136,7 +137,7 @@ write_back s buffer e n = rw (write_line s buffer e n) (line_back s e)
 
 -- The buffer keeps its length.
 same_length : (line buffer : List ℕ) (k : ℕ) (z b : Bool) → leb (length line) (length buffer) ≡ b
-    → length (if_done (cond (not z) (outcome.RuleBroken k) (cond (not b) outcome.BufferTooShort outcome.Done)) (line ++ drop (length line) buffer) buffer) ≡ length buffer
+    → length (if_done (cond (not z) (Err (why.RuleBroken k)) (cond (not b) (Err why.BufferTooShort) (Ok tt))) (line ++ drop (length line) buffer) buffer) ≡ length buffer
 unfolding if_done refusal
 same_length line buffer k true true e =
     omega (arith, length-append line (drop (length line) buffer), length-drop (length line) buffer, leb-true (length line) (length buffer) e)

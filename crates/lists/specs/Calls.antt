@@ -1,8 +1,7 @@
 -- Document 02, wish 1: how reading and writing a line end, and what they hand back and leave.
-use Rattle.std.specs.Prelude.{ℕ, not, List, [], ◌∷◌, ◌++◌, length, drop, leb}
-use Rattle.basics.specs.Outcomes.{if_done, Test, when, first_refusal, record_test, buffer_test, rule_test}
-use Rattle.basics.specs.declared.Outcome.{Outcome}
-use Rattle.basics.specs.declared.Outcome.TheVariants as outcome
+use Rattle.std.specs.Prelude.{ℕ, not, List, [], ◌∷◌, ◌++◌, length, drop, leb, Err}
+use Rattle.basics.specs.Outcomes.{if_done, Test, when, first_refusal, record_test, buffer_test, rule_test, Outcome}
+use Rattle.basics.specs.declared.Refusal.TheVariants as why
 use Rattle.station.specs.Places.{station_places}
 use Rattle.station.specs.Values.{empty_station}
 use Rattle.station.specs.Codes.{value_of, station_code, typed_code}
@@ -14,8 +13,8 @@ use Rattle.semicolons.specs.Lines.{line_of, line_fields, is_line, record_of}
 -- Reading a line asks 10, 11 and 9, in that order.
 abbrev pub line_tests : List ℕ → List Test
 line_tests t =
-    when (not (is_line t)) outcome.NotALine
-    ∷ when (not (none_longer station_places (line_fields t))) outcome.FieldTooLong
+    when (not (is_line t)) (Err why.NotALine)
+    ∷ when (not (none_longer station_places (line_fields t))) (Err why.FieldTooLong)
     ∷ rule_test (station_code (record_of t))
     ∷ []
 
@@ -28,7 +27,7 @@ station_in_line t = if_done (line_outcome t) (value_of (record_of t)) empty_stat
 
 -- The lent buffer is shorter than a station's line.
 abbrev pub room_test : Station → List ℕ → Test
-room_test s buffer = when (not (leb (length (line_of s)) (length buffer))) outcome.BufferTooShort
+room_test s buffer = when (not (leb (length (line_of s)) (length buffer))) (Err why.BufferTooShort)
 
 -- Writing a line into a lent buffer asks 9 and 12, in that order.
 unfoldable pub write_line_outcome : Station → List ℕ → Outcome

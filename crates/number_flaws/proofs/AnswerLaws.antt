@@ -11,14 +11,9 @@ use Rattle.columns.specs.Texts.{bytes, blank, every, each, byte_good}
 use Rattle.columns.proofs.TextLaws.{and_split, cond_case}
 use Rattle.numerals.specs.Numbers.{admits_whole}
 use Rattle.numerals.proofs.NumberLaws.{Carries}
-use Rattle.numerals.specs.declared.Signed.{Signed}
-use Rattle.numerals.specs.declared.Signed.TheVariants as signed
 use Rattle.days.specs.Dates.{date_reads, unread_date, date_of, date_in, date_rule}
-use Rattle.days.specs.declared.dates.Dated.{Dated}
-use Rattle.days.specs.declared.dates.Dated.TheVariants as dated
 use Rattle.frequencies.specs.Frequencies.{unit_good}
 use Rattle.positions.specs.Positions.{position_good, admits_position, position_reads, unread_position, located_of}
-use Rattle.positions.specs.declared.Located.{Located}
 use Rattle.fields.specs.Kinds.{unit, date_or_blank, position}
 use Rattle.flaws.specs.Flaws.{letter_of, unread, ranged}
 use Rattle.flaw_parts.specs.Parts.{number_reads, day_reads, number_within, date_within, day_within, position_within, Parts, numbered, parts, flaw_in, flaw_at}
@@ -28,6 +23,9 @@ use Rattle.flaws.proofs.SetsAlike.{unread-alike, among-letters}
 use Rattle.flaw_parts.proofs.AdmittedLaws.{admitted}
 use Rattle.flaw_parts.proofs.SplitLaws.{split, unread_flaw, none_means, range_means, byte_means, shape_means}
 use Rattle.number_flaws.specs.Answers.{number_flaw, day_flaw, place_flaw}
+use Rattle.std.specs.Prelude.{Option, Some, None, Result, Ok, Err}
+use Rattle.days.specs.declared.dates.Date.{Date}
+use Rattle.positions.specs.declared.Position.{Position}
 
 -- what is read has the flaw of its range
 in_range : (b : Bool) → ranged b ≡ cond (not b) flaw.Range flaw.None
@@ -35,11 +33,11 @@ in_range true = refl
 in_range false = refl
 
 -- A number: what its reader carries is the flaw of its bytes.
-pub number_flaw_lem : (admits : ℕ → Bool) (range : ℤ → Bool) (number : List ℕ → Signed) (p : List ℕ) → (number_reads (number p) ≡ true → every admits p ≡ true) → Carries (unread admits p) (number p)
-    → (v : Signed) → number p ≡ v → number_flaw range v ≡ flaw_in (numbered admits range number) [] p
-number_flaw_lem admits range number p adm wrong (signed.Bad x) e = (rw e at wrong) ∙ unread_flaw (numbered admits range number) [] p (ap number_reads e)
-number_flaw_lem admits range number p adm wrong signed.Blank e = rw (adm (ap number_reads e), e)
-number_flaw_lem admits range number p adm wrong (signed.Filled z) e = rw (adm (ap number_reads e), e) (in_range (range z))
+pub number_flaw_lem : (admits : ℕ → Bool) (range : ℤ → Bool) (number : List ℕ → Result (Option ℤ) Flaw) (p : List ℕ) → (number_reads (number p) ≡ true → every admits p ≡ true) → Carries (unread admits p) (number p)
+    → (v : Result (Option ℤ) Flaw) → number p ≡ v → number_flaw range v ≡ flaw_in (numbered admits range number) [] p
+number_flaw_lem admits range number p adm wrong (Err x) e = (rw e at wrong) ∙ unread_flaw (numbered admits range number) [] p (ap number_reads e)
+number_flaw_lem admits range number p adm wrong (Ok None) e = rw (adm (ap number_reads e), e)
+number_flaw_lem admits range number p adm wrong (Ok (Some z)) e = rw (adm (ap number_reads e), e) (in_range (range z))
 
 -- A unit that is at odds with its amount.
 unit_one : (q : List ℕ) → length q ≡ 1 → every (among "kMG ") q ≡ byte_good (among "kMG ") q
@@ -89,14 +87,14 @@ module _ (p : List ℕ) where
   day_answer : day_flaw (date_of p) ≡ flaw_at 8 [] p
   unfolding date_of unread_date date_within
   day_answer =
-      cond_case (λ (d : Dated). day_flaw d ≡ flaw_at 8 [] p) (blank p) blank_day
-      (λ b. cond_case (λ (d : Dated). day_flaw d ≡ flaw_at 8 [] p) (date_reads p && date_within p)
+      cond_case (λ (d : Result (Option Date) Flaw). day_flaw d ≡ flaw_at 8 [] p) (blank p) blank_day
+      (λ b. cond_case (λ (d : Result (Option Date) Flaw). day_flaw d ≡ flaw_at 8 [] p) (date_reads p && date_within p)
       (λ e. let h = and_split (date_reads p) (date_within p) e in real_day h.0 h.1)
       (λ e. cond_case (λ (x : Flaw). x ≡ flaw_at 8 [] p) (date_reads p)
       (λ r. no_day b r (sym (ap (λ (t : Bool). t && date_within p) r) ∙ e))
       (no_date b)))
 
-pub day_flaw_lem : (p : List ℕ) (d : Dated) → date_of p ≡ d → day_flaw d ≡ flaw_at 8 [] p
+pub day_flaw_lem : (p : List ℕ) (d : Result (Option Date) Flaw) → date_of p ≡ d → day_flaw d ≡ flaw_at 8 [] p
 day_flaw_lem p d e = ap day_flaw (sym e) ∙ day_answer p
 
 -- A place.
@@ -116,10 +114,10 @@ place_unread p r = unread_flaw (parts position 15) [] p r
 place_answer : (p : List ℕ) → place_flaw (located_of p) ≡ flaw_at 11 [] p
 unfolding located_of unread_position
 place_answer p =
-    cond_case (λ (d : Located). place_flaw d ≡ flaw_at 11 [] p) (position_good p) (place_kept p)
+    cond_case (λ (d : Result Position Flaw). place_flaw d ≡ flaw_at 11 [] p) (position_good p) (place_kept p)
     (λ e. cond_case (λ (x : Flaw). x ≡ flaw_at 11 [] p) (position_reads p) (place_outside p e) (place_unread p))
 
-pub place_flaw_lem : (p : List ℕ) (d : Located) → located_of p ≡ d → place_flaw d ≡ flaw_at 11 [] p
+pub place_flaw_lem : (p : List ℕ) (d : Result Position Flaw) → located_of p ≡ d → place_flaw d ≡ flaw_at 11 [] p
 place_flaw_lem p d e = ap place_flaw (sym e) ∙ place_answer p
 
 -- The letters of a unit.

@@ -9,14 +9,13 @@ ghost use Rattle.fields.specs.Table.{range_of};
 ghost use Rattle.flaws.specs.Flaws.{ranged};
 ghost use Rattle.flaw_parts.specs.Parts.{numbered, flaw_in, flaw_at};
 
-use days::dates::{Dated, read_date};
+use days::dates::read_date;
 use distances::is_whole_filled;
 use flaws::{Flaw, all_letters_of, unread_of};
 use formats::{Format, read_decimal};
 use frequencies::is_unit;
 use numeral_writing::{fits_signed, magnitude};
-use numerals::Signed;
-use positions::{Located, read_position};
+use positions::read_position;
 use signed_numerals::read_signed;
 use tenths::in_range;
 
@@ -32,9 +31,9 @@ pub fn amount_flaw(s: &[u8]) -> Flaw
     ensures { result ≡ flaw_at 1 [] s.now }
 {
     match read_decimal(Format::Frequency, s) {
-        Signed::Bad(flaw) => flaw,
-        Signed::Blank => Flaw::None,
-        Signed::Filled(v) => range_flaw(0 < magnitude(v)),
+        Err(flaw) => flaw,
+        Ok(None) => Flaw::None,
+        Ok(Some(v)) => range_flaw(0 < magnitude(v)),
     }
 }
 
@@ -60,9 +59,9 @@ pub fn tenths_flaw(format: Format, s: &[u8]) -> Flaw
     ensures { result ≡ flaw_in (numbered (admits_decimal (may_sign format)) (range_of format) (format_of format)) [] s.now }
 {
     match read_decimal(format, s) {
-        Signed::Bad(flaw) => flaw,
-        Signed::Blank => Flaw::None,
-        Signed::Filled(v) => range_flaw(in_range(format, v)),
+        Err(flaw) => flaw,
+        Ok(None) => Flaw::None,
+        Ok(Some(v)) => range_flaw(in_range(format, v)),
     }
 }
 
@@ -81,9 +80,9 @@ pub fn height_flaw(s: &[u8]) -> Flaw
     ensures { result ≡ flaw_at 13 [] s.now }
 {
     match read_signed(s) {
-        Signed::Bad(flaw) => flaw,
-        Signed::Blank => Flaw::None,
-        Signed::Filled(z) => range_flaw(fits_signed(4, z)),
+        Err(flaw) => flaw,
+        Ok(None) => Flaw::None,
+        Ok(Some(z)) => range_flaw(fits_signed(4, z)),
     }
 }
 
@@ -92,9 +91,8 @@ pub fn day_flaw(s: &[u8]) -> Flaw
     ensures { result ≡ flaw_at 8 [] s.now }
 {
     match read_date(s) {
-        Dated::Bad(flaw) => flaw,
-        Dated::Blank => Flaw::None,
-        Dated::Filled(_) => Flaw::None,
+        Err(flaw) => flaw,
+        Ok(_) => Flaw::None,
     }
 }
 
@@ -103,7 +101,7 @@ pub fn position_flaw(s: &[u8]) -> Flaw
     ensures { result ≡ flaw_at 11 [] s.now }
 {
     match read_position(s) {
-        Located::Bad(flaw) => flaw,
-        Located::Filled(_) => Flaw::None,
+        Err(flaw) => flaw,
+        Ok(_) => Flaw::None,
     }
 }

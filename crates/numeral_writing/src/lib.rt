@@ -11,6 +11,7 @@ pub fn put_digits(s: &mut [u8], at: usize, count: usize, v: u64) -> u64
 {
     let mut rest = v;
     let mut left = count;
+    // No for: the digits fall in pairs from the end, and what is left then says whether one stands alone.
     while 1 < left {
         left -= 2;
         let pair = rest % 100;
@@ -38,13 +39,11 @@ pub fn fits_whole(k: usize, v: u64) -> bool
     ensures { result ≡ whole_fits k v }
 {
     let mut rest = v;
-    let mut left = k;
-    while 0 < left {
+    for _ in 0..k {
         if rest == 0 {
             return true;
         }
-        left -= 1;
-        rest = rest / 10;
+        rest /= 10;
     }
     rest == 0
 }
@@ -60,12 +59,7 @@ pub fn is_negative(v: i64) -> bool
 pub fn magnitude(v: i64) -> u64
     ensures { result ≡ nat_abs v }
 {
-    if v < 0 {
-        let w = v + 1;
-        let n = 0 - w;
-        return n as u64 + 1;
-    }
-    v as u64
+    v.unsigned_abs()
 }
 
 // Whether a number and its sign have their places in w columns.

@@ -6,8 +6,8 @@ use Prim.Native.Nat.{ℕ, zero, suc, ◌+◌, ◌-◌, ◌*◌, ◌/◌, ◌^◌
 use native.Mathlib.Omega.{arith}
 use native.Mathlib.Decide.{dec_lt}
 use native.Mathlib.Numerals.{add-one, sub-one}
-use native.Mathlib.Nat.{zero-add, add-zero, add-suc, suc-add, pow-suc, pow-succ', pow-le-pow_right, mul_assoc, one-le-pow}
-use lib.Dec.{leb, ltb, eqb}
+use native.Mathlib.Nat.{zero-add, add-zero, add-suc, suc-add, pow-suc, pow-le-pow_right, one-le-pow}
+use lib.Dec.{leb, ltb}
 use lib.ListN.{length, get_or, take, drop, length-take, get_or-eq_default}
 use lib.Seq.{drop-cons}
 use borrow.Author.Tests.{leb-true, lt-ltb, le-ltb, ne_eqb}
@@ -16,11 +16,9 @@ use Rattle.columns.specs.Texts.{head, tail, ended, skip, every, blank}
 use Rattle.flaws.specs.Flaws.{unread}
 use Rattle.flaws.specs.declared.Flaw.{Flaw}
 use Rattle.numerals.specs.Numbers.{leading, number_from, number, whole_digits, amount, in_sign, has_minus, unsigned, number_of, whole_of}
-use Rattle.numerals.specs.declared.Whole.{Whole}
-use Rattle.numerals.specs.declared.Whole.TheVariants as whole
-use Rattle.numerals.specs.declared.Signed.{Signed}
-use Rattle.numerals.specs.declared.Signed.TheVariants as signed
 use Rattle.columns.proofs.TextLaws.{and_split, cond_case, head_at, tail_at, at_end, not_at_end, every_take, every_drop, every_at}
+use Rattle.std.specs.Prelude.{Option, Some, None, Result, Ok, Err, ℤ}
+use Rattle.numerals.specs.declared.Unread.{Unread}
 
 pub digit_range : (c : ℕ) → is_digit c ≡ true → (48 ≤ c) × (c ≤ 57)
 digit_range c e = let h = and_split (leb 48 c) (leb c 57) e in (leb-true 48 c h.0, leb-true c 57 h.1)
@@ -121,39 +119,32 @@ front_below k t = rw (zero-add k) at (leading_below 0 0 k t (omega arith))
 pub whole_small : (t : List ℕ) → amount (whole_digits t) < 10 ^ 18
 unfolding whole_digits
 whole_small t =
-    cond_case (λ (w : Whole). amount w < 10 ^ 18) (not (ended (leading 18 t)) && ended (drop (length (leading 18 t)) t))
+    cond_case (λ (w : Result (Option ℕ) Unread). amount w < 10 ^ 18) (not (ended (leading 18 t)) && ended (drop (length (leading 18 t)) t))
     (λ e. front_below 18 t) (λ e. omega arith)
 
 -- a number with a sign, over what its digits say: blank where nothing follows the spaces,
-pub number-blank : (sign : Bool) (S : ℕ → Bool) (d : List ℕ → Whole) (s : List ℕ) (i : ℕ) → skip s ≡ drop i s → i ≡ length s → signed.Blank ≡ number_of sign S d s
+pub number-blank : (sign : Bool) (S : ℕ → Bool) (d : List ℕ → Result (Option ℕ) Unread) (s : List ℕ) (i : ℕ) → skip s ≡ drop i s → i ≡ length s → (Ok None) ≡ number_of sign S d s
 number-blank sign S d s i e h = rw (e, at_end s i h)
 
 -- and else what the digits after the sign say
-pub number_read : (sign : Bool) (S : ℕ → Bool) (d : List ℕ → Whole) (s : List ℕ) (i : ℕ) {t u : List ℕ} {minus : Bool} {w : Whole} {r : Signed}
+pub number_read : (sign : Bool) (S : ℕ → Bool) (d : List ℕ → Result (Option ℕ) Unread) (s : List ℕ) (i : ℕ) {t u : List ℕ} {minus : Bool} {w : Result (Option ℕ) Unread} {r : Result (Option ℤ) Flaw}
     → skip s ≡ drop i s → i ≤ length s → (i ≡ length s → ⊥) → t ≡ drop i s → minus ≡ has_minus sign t → u ≡ unsigned sign t → w ≡ d u → r ≡ in_sign (unread S s) minus w
     → r ≡ number_of sign S d s
 number_read sign S d s i e l n at m f g h = rw (e, not_at_end s i l n, ← at, ← m, ← f, ← g) h
 
 -- what is bad carries the flaw of its field
-abbrev pub Carries : Flaw → Signed → Type 0
-Carries wrong (signed.Bad x) = x ≡ wrong
-Carries wrong signed.Blank = Unit {0}
-Carries wrong (signed.Filled z) = Unit {0}
+abbrev pub Carries : Flaw → Result (Option ℤ) Flaw → Type 0
+Carries wrong (Err x) = x ≡ wrong
+Carries wrong (Ok None) = Unit {0}
+Carries wrong (Ok (Some z)) = Unit {0}
 
-pub number_carries : (sign : Bool) (S : ℕ → Bool) (d : List ℕ → Whole) (p : List ℕ) → Carries (unread S p) (number_of sign S d p)
+pub number_carries : (sign : Bool) (S : ℕ → Bool) (d : List ℕ → Result (Option ℕ) Unread) (p : List ℕ) → Carries (unread S p) (number_of sign S d p)
 number_carries sign S d p =
     cond_case (Carries (unread S p)) (ended (skip p)) (λ e. tt) (λ e. by (unread S p) (has_minus sign (skip p)) (d (unsigned sign (skip p)))) where
-      by : (wrong : Flaw) (minus : Bool) (w : Whole) → Carries wrong (in_sign wrong minus w)
-      by wrong minus whole.Bad = refl
-      by wrong minus whole.Blank = refl
-      by wrong minus (whole.Filled v) = tt
-
--- a number with one more zero behind it has room, while there are places left
-pub scale_turn : (r k : ℕ) → 0 < k → k ≤ 18 → r < 10 ^ (18 - k) → (r * 10 < 10 ^ (18 - (k - 1))) × (r * 10 ^ k ≡ r * 10 * 10 ^ (k - 1)) × (10 ^ (18 - (k - 1)) ≤ 10 ^ 18)
-scale_turn r zero h l b = absurd (omega arith)
-scale_turn r (suc k) h l b =
-    let m = room (suc k) r h l b in
-    (omega (arith, m.0), rw (sub-one, pow-succ', mul_assoc), m.1)
+      by : (wrong : Flaw) (minus : Bool) (w : Result (Option ℕ) Unread) → Carries wrong (in_sign wrong minus w)
+      by wrong minus (Err bad) = refl
+      by wrong minus (Ok None) = refl
+      by wrong minus (Ok (Some v)) = tt
 
 -- a number has k digits where it has k - 1 without its last
 pub fits_turn : (k v : ℕ) → 0 < k → ltb v (10 ^ k) ≡ ltb (v / 10) (10 ^ (k - 1))
@@ -168,12 +159,6 @@ fits_turn (suc k) v h =
 -- zero has its places anywhere
 pub fits_zero : (k v : ℕ) → v ≡ 0 → ltb v (10 ^ k) ≡ true
 fits_zero k v e = rw e (lt-ltb 0 (10 ^ k) (one-le-pow k 10 (omega arith)))
-
--- and with no places left nothing else has
-pub fits_none : (k v : ℕ) → k ≤ 0 → ltb v (10 ^ k) ≡ eqb v 0
-fits_none zero zero h = refl
-fits_none zero (suc v) h = le-ltb (suc v) 1 (omega arith) ∙ sym (ne_eqb (suc v) 0 (λ e. omega arith))
-fits_none (suc k) v h = absurd (omega arith)
 
 -- digits that are no more than the places are all at the front
 pub leading_all : (k : ℕ) (p : List ℕ) → every is_digit p ≡ true → length p ≤ k → leading k p ≡ p
@@ -199,10 +184,10 @@ part_below n i s e = let d = digits_part n i s e in digits_below n (take n (drop
 -- a whole number that columns say has at most eighteen digits
 pub amount_small : (p : List ℕ) → amount (whole_of p) < 10 ^ 18
 unfolding whole_of
-amount_small p = cond_case (λ (w : Whole). amount w < 10 ^ 18) (blank p) (λ e. omega arith) (λ e. whole_small (skip p))
+amount_small p = cond_case (λ (w : Result (Option ℕ) Unread). amount w < 10 ^ 18) (blank p) (λ e. omega arith) (λ e. whole_small (skip p))
 
 -- digits in every column are a whole number
-pub whole_plain : (p : List ℕ) → every is_digit p ≡ true → 0 < length p → length p ≤ 18 → whole_of p ≡ whole.Filled (number p)
+pub whole_plain : (p : List ℕ) → every is_digit p ≡ true → 0 < length p → length p ≤ 18 → whole_of p ≡ Ok (Some (number p))
 unfolding whole_of whole_digits every skip
 whole_plain [] e h l = absurd (omega arith)
 whole_plain (c ∷ p) e h l =

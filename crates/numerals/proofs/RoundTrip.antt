@@ -13,11 +13,10 @@ use borrow.Author.Tests.{ne_eqb, le-leb, ltb-true}
 use Rattle.columns.specs.Sets.{among, is_digit}
 use Rattle.columns.specs.Texts.{head, ended, skip, every}
 use Rattle.numerals.specs.Numbers.{leading, number_from, whole_digits, whole_of, with_sign, unsigned, admits_whole, number_of, signed_of, spell_digits, spell_whole, spell_signed, signed_fits}
-use Rattle.numerals.specs.declared.Whole.{Whole}
-use Rattle.numerals.specs.declared.Whole.TheVariants as whole
-use Rattle.numerals.specs.declared.Signed.TheVariants as signed
 use Rattle.columns.proofs.TextLaws.{and_split, at_end}
 use Rattle.numerals.proofs.NumberLaws.{digit_range, leading_all}
+use Rattle.std.specs.Prelude.{Option, Some, Result, Ok}
+use Rattle.numerals.specs.declared.Unread.{Unread}
 
 -- a spelled digit is a digit
 pub digit_is : (m : ℕ) → is_digit (48 + m % 10) ≡ true
@@ -89,33 +88,33 @@ not-ended (suc zero) m t h = refl
 not-ended (suc (suc k)) m t h = not-ended (suc k) (m / 10) ((48 + m % 10) ∷ t) (omega arith)
 
 -- whole numbers
-whole_digits_trip : (k v : ℕ) → 1 ≤ k → k ≤ 18 → v < 10 ^ k → whole_digits (spell_whole k v) ≡ whole.Filled v
+whole_digits_trip : (k v : ℕ) → 1 ≤ k → k ≤ 18 → v < 10 ^ k → whole_digits (spell_whole k v) ≡ Ok (Some v)
 unfolding whole_digits
 whole_digits_trip k v one few h =
     let p = spell_whole k v in
     let n : length p ≡ k = spelled_length k v [] ∙ omega arith in
     let all : leading 18 p ≡ p = leading_all 18 p (spelled_digits k v [] (unfold every in refl)) (omega arith) in
-    rw (all, not-ended k v [] one, at_end p (length p) refl, spelled_says k 0 v h) (ap whole.Filled (simp (zero-mul, zero-add)))
+    rw (all, not-ended k v [] one, at_end p (length p) refl, spelled_says k 0 v h) (ap (λ (n : ℕ). Ok (Some n)) (simp (zero-mul, zero-add)))
 
-pub whole_trip : (k v : ℕ) → 1 ≤ k → k ≤ 18 → v < 10 ^ k → whole_of (spell_whole k v) ≡ whole.Filled v
+pub whole_trip : (k v : ℕ) → 1 ≤ k → k ≤ 18 → v < 10 ^ k → whole_of (spell_whole k v) ≡ Ok (Some v)
 unfolding whole_of
 whole_trip k v one few h =
     let s : skip (spell_whole k v) ≡ spell_whole k v = skip-none (spell_whole k v) (omega (arith, begins_high k v [] one)) in
     rw (s, not-ended k v [] one) (whole_digits_trip k v one few h)
 
 -- a number whose text t begins with no sign, behind its spaces, over what its digits say
-pub plain_trip : (sign : Bool) (S : ℕ → Bool) (d : List ℕ → Whole) (p t : List ℕ) (v : ℕ) → skip p ≡ skip t → ended t ≡ false → 46 ≤ head t → d t ≡ whole.Filled v → number_of sign S d p ≡ signed.Filled (pos v)
+pub plain_trip : (sign : Bool) (S : ℕ → Bool) (d : List ℕ → Result (Option ℕ) Unread) (p t : List ℕ) (v : ℕ) → skip p ≡ skip t → ended t ≡ false → 46 ≤ head t → d t ≡ Ok (Some v) → number_of sign S d p ≡ Ok (Some (pos v))
 unfolding unsigned among
 plain_trip sign S d p t v k e h f =
     rw (k, skip-none t (omega arith), e, ne_eqb (head t) 45 (λ q. omega arith), ne_eqb (head t) 43 (λ q. omega arith), and-false sign, f)
 
 -- and one that begins with minus
-pub minus_trip : (S : ℕ → Bool) (d : List ℕ → Whole) (t : List ℕ) (v : ℕ) → d t ≡ whole.Filled v → number_of true S d (45 ∷ t) ≡ signed.Filled (with_sign true v)
+pub minus_trip : (S : ℕ → Bool) (d : List ℕ → Result (Option ℕ) Unread) (t : List ℕ) (v : ℕ) → d t ≡ Ok (Some v) → number_of true S d (45 ∷ t) ≡ Ok (Some (with_sign true v))
 unfolding unsigned among skip
 minus_trip S d t v f = rw f
 
 -- whole numbers with a sign
-pub signed_trip : (w : ℕ) (z : ℤ) → w ≤ 18 → signed_fits w z ≡ true → signed_of (spell_signed w z) ≡ signed.Filled z
+pub signed_trip : (w : ℕ) (z : ℤ) → w ≤ 18 → signed_fits w z ≡ true → signed_of (spell_signed w z) ≡ Ok (Some z)
 unfolding signed_of spell_signed signed_fits
 signed_trip w (pos n) few e =
     let f = and_split (ltb 0 w) (ltb n (10 ^ w)) e in

@@ -25,12 +25,6 @@ pub div_turn : (k m : ℕ) → 0 < k → m / 10 ^ k ≡ m / 10 / 10 ^ (k - 1)
 div_turn zero m h = absurd (omega arith)
 div_turn (suc k) m h = rw (sub-one, div-div-eq-div-mul, pow-succ')
 
--- no digits at all
-pub spell_none : (k m : ℕ) (t : List ℕ) → k ≤ 0 → spell_digits k m t ≡ t
-unfolding spell_digits
-spell_none zero m t h = refl
-spell_none (suc k) m t h = absurd (omega arith)
-
 pub div_none : (k m : ℕ) → k ≤ 0 → m / 10 ^ k ≡ m
 div_none zero m h = div-one m
 div_none (suc k) m h = absurd (omega arith)

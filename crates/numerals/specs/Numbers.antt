@@ -1,13 +1,11 @@
 -- Document 01, "How columns are read" and "Values and the one spelling": numbers.
-use Rattle.std.specs.Prelude.{ℕ, zero, suc, ◌+◌, ◌-◌, ◌*◌, ◌/◌, ◌%◌, ◌^◌, Bool, true, false, cond, not, ◌&&◌, ◌||◌, List, [], ◌∷◌, length, drop, ltb, ℤ, pos, negsuc, neg_ℤ, nat_abs}
+use Rattle.std.specs.Prelude.{unwrap_or, is_some, ℕ, zero, suc, ◌+◌, ◌-◌, ◌*◌, ◌/◌, ◌%◌, ◌^◌, Bool, true, false, cond, not, ◌&&◌, ◌||◌, List, [], ◌∷◌, length, drop, ltb, ℤ, pos, negsuc, neg_ℤ, nat_abs, Option, Some, None, Result, Ok, Err}
+use Rattle.std.specs.Result.{result_unwrap_or}
 use Rattle.columns.specs.Sets.{is, among, is_digit}
 use Rattle.columns.specs.Texts.{head, tail, ended, skip}
 use Rattle.flaws.specs.Flaws.{unread}
 use Rattle.flaws.specs.declared.Flaw.{Flaw}
-use Rattle.numerals.specs.declared.Whole.{Whole}
-use Rattle.numerals.specs.declared.Whole.TheVariants as whole
-use Rattle.numerals.specs.declared.Signed.{Signed}
-use Rattle.numerals.specs.declared.Signed.TheVariants as signed
+use Rattle.numerals.specs.declared.Unread.{Unread}
 
 -- The digits at the front of a text, k at most.
 unfoldable pub leading : ℕ → List ℕ → List ℕ
@@ -30,37 +28,37 @@ number t = number_from 0 t
 abbrev pub most_digits : ℕ
 most_digits = 18
 
+-- The answer to columns that are not blank and say no whole number.
+abbrev pub no_whole : Result (Option ℕ) Unread
+no_whole = Err (record {})
+
 -- At least one digit, and digits to the end.
-unfoldable pub whole_digits : List ℕ → Whole
+unfoldable pub whole_digits : List ℕ → Result (Option ℕ) Unread
 whole_digits t =
     let digits = leading most_digits t in
-    cond (not (ended digits) && ended (after most_digits t)) (whole.Filled (number digits)) whole.Bad
+    cond (not (ended digits) && ended (after most_digits t)) (Ok (Some (number digits))) no_whole
 
 -- Whole number: spaces, then digits to the last column, at least one digit.
-unfoldable pub whole_of : List ℕ → Whole
-whole_of p = let t = skip p in cond (ended t) whole.Blank (whole_digits t)
+unfoldable pub whole_of : List ℕ → Result (Option ℕ) Unread
+whole_of p = let t = skip p in cond (ended t) (Ok None) (whole_digits t)
 
 -- A whole number is there.
-abbrev pub whole_filled : Whole → Bool
-whole_filled whole.Bad = false
-whole_filled whole.Blank = false
-whole_filled (whole.Filled v) = true
+abbrev pub whole_filled : Result (Option ℕ) Unread → Bool
+whole_filled w = is_some (result_unwrap_or w None)
 
 -- The whole number that is there, 0 where there is none.
-abbrev pub amount : Whole → ℕ
-amount whole.Bad = 0
-amount whole.Blank = 0
-amount (whole.Filled v) = v
+abbrev pub amount : Result (Option ℕ) Unread → ℕ
+amount w = unwrap_or (result_unwrap_or w None) 0
 
 -- v, or -v.
 abbrev pub with_sign : Bool → ℕ → ℤ
 with_sign minus v = cond minus (neg_ℤ (pos v)) (pos v)
 
 -- A number whose sign is known, or what is wrong with its field where its digits say none.
-abbrev pub in_sign : Flaw → Bool → Whole → Signed
-in_sign wrong minus whole.Bad = signed.Bad wrong
-in_sign wrong minus whole.Blank = signed.Bad wrong
-in_sign wrong minus (whole.Filled v) = signed.Filled (with_sign minus v)
+abbrev pub in_sign : Flaw → Bool → Result (Option ℕ) Unread → Result (Option ℤ) Flaw
+in_sign wrong minus (Err bad) = Err wrong
+in_sign wrong minus (Ok None) = Err wrong
+in_sign wrong minus (Ok (Some v)) = Ok (Some (with_sign minus v))
 
 -- The bytes that a whole number admits, with a sign or without.
 unfoldable pub admits_whole : Bool → ℕ → Bool
@@ -74,20 +72,20 @@ unfoldable pub unsigned : Bool → List ℕ → List ℕ
 unsigned sign t = cond (sign && among "+-" (head t)) (tail t) t
 
 -- Spaces, a sign where the field may have one, and what its digits say. What is no number has the flaw of its bytes, by those that the field admits.
-abbrev pub number_of : Bool → (ℕ → Bool) → (List ℕ → Whole) → List ℕ → Signed
+abbrev pub number_of : Bool → (ℕ → Bool) → (List ℕ → Result (Option ℕ) Unread) → List ℕ → Result (Option ℤ) Flaw
 number_of sign admits digits p =
     let t = skip p in
-    cond (ended t) signed.Blank (in_sign (unread admits p) (has_minus sign t) (digits (unsigned sign t)))
+    cond (ended t) (Ok None) (in_sign (unread admits p) (has_minus sign t) (digits (unsigned sign t)))
 
 -- Whole number with a sign.
-unfoldable pub signed_of : List ℕ → Signed
+unfoldable pub signed_of : List ℕ → Result (Option ℤ) Flaw
 signed_of p = number_of true (admits_whole true) whole_digits p
 
 -- Blank, or a number that passes.
-abbrev pub passes : (ℤ → Bool) → Signed → Bool
-passes test (signed.Bad wrong) = false
-passes test signed.Blank = true
-passes test (signed.Filled z) = test z
+abbrev pub passes : (ℤ → Bool) → Result (Option ℤ) Flaw → Bool
+passes test (Err wrong) = false
+passes test (Ok None) = true
+passes test (Ok (Some z)) = test z
 
 -- The one spelling: all digit places filled with digits. The last k decimal digits of v stand in front of t.
 unfoldable pub spell_digits : ℕ → ℕ → List ℕ → List ℕ

@@ -1,4 +1,4 @@
-// Whole numbers without a sign, read; and the answers of all numbers.
+// Whole numbers without a sign, read.
 #![tactic(auto)]
 
 ghost use Rattle.std.specs.Prelude.{◌≡◌, true, ◌-◌, ◌^◌, ◌≤◌, ◌<◌, length};
@@ -8,23 +8,10 @@ ghost use Rattle.numerals.specs.Numbers.{leading, number_from, number, whole_dig
 
 use columns::sets::is_digit;
 use columns::texts::{byte, spaces};
-use flaws::Flaw;
 
-// A whole number, read from its columns.
+// That columns say no whole number, and are not blank.
 #[derive(Clone, Copy)]
-pub enum Whole {
-    Bad,
-    Blank,
-    Filled(u64),
-}
-
-// A number with a sign, read from its columns: metres, or units of the last decimal place; or what is wrong with them.
-#[derive(Clone, Copy)]
-pub enum Signed {
-    Bad(Flaw),
-    Blank,
-    Filled(i64),
-}
+pub struct Unread;
 
 // Digits that were read: what they say, and how many there are.
 #[derive(Clone, Copy)]
@@ -39,18 +26,14 @@ pub fn digits(t: &[u8], most: usize, v: u64) -> Taken
     ensures { (result.count ≡ length (leading most t.now)) × (result.value ≡ number_from v (leading most t.now)) }
 {
     let mut value = v;
-    let mut count = 0;
-    let mut left = most;
-    while 0 < left {
-        left -= 1;
+    for count in 0..most {
         let c = byte(t, count);
         if !is_digit(c) {
             return Taken { value, count };
         }
-        value = value * 10 + ((c - 48) as u64);
-        count += 1;
+        value = value * 10 + u64::from(c - b'0');
     }
-    Taken { value, count }
+    Taken { value, count: most }
 }
 
 // The number that digits say, where nothing else is there.
@@ -58,61 +41,51 @@ pub fn number_of(p: &[u8]) -> u64
     requires { (length p.now ≤ 18) × (every is_digit p.now ≡ true) }
     ensures { result ≡ number p.now }
 {
-    let mut value: u64 = 0;
-    let mut i = 0;
-    while i < p.len() {
-        value = value * 10 + (p[i] as u64 - 48);
-        i += 1;
+    let mut value = 0;
+    for c in p {
+        value = value * 10 + u64::from(*c - b'0');
     }
     value
 }
 
 // At least one digit, and digits to the end.
-pub fn only_digits(t: &[u8]) -> Whole
+pub fn only_digits(t: &[u8]) -> Result<Option<u64>, Unread>
     ensures { result ≡ whole_digits t.now }
 {
     let d = digits(t, 18, 0);
     let n = d.count;
     if n == 0 {
-        return Whole::Bad;
+        return Err(Unread);
     }
     if n == t.len() {
-        return Whole::Filled(d.value);
+        return Ok(Some(d.value));
     }
-    Whole::Bad
+    Err(Unread)
 }
 
 // Spaces, then digits to the last column, at least one digit.
-pub fn read_whole(s: &[u8]) -> Whole
+pub fn read_whole(s: &[u8]) -> Result<Option<u64>, Unread>
     ensures { result ≡ whole_of s.now }
 {
     let i = spaces(s);
     if i == s.len() {
-        return Whole::Blank;
+        return Ok(None);
     }
     only_digits(&s[i..])
 }
 
 // Whether a whole number was read.
-pub fn says_number(w: Whole) -> bool
+pub fn says_number(w: Result<Option<u64>, Unread>) -> bool
     ensures { result ≡ whole_filled w }
 {
-    match w {
-        Whole::Bad => false,
-        Whole::Blank => false,
-        Whole::Filled(_) => true,
-    }
+    w.unwrap_or(None).is_some()
 }
 
 // The whole number that was read, 0 where there is none.
-pub fn amount_of(w: Whole) -> u64
+pub fn amount_of(w: Result<Option<u64>, Unread>) -> u64
     ensures { result ≡ amount w }
 {
-    match w {
-        Whole::Bad => 0,
-        Whole::Blank => 0,
-        Whole::Filled(v) => v,
-    }
+    w.unwrap_or(None).unwrap_or(0)
 }
 
 // The whole number that is there, 0 where there is none.

@@ -1,5 +1,5 @@
 -- What is heard of a station that breaks no rule: its operator's code is two digits, and its transmit frequency has its places.
-use mathlib.Core.Path.{◌≡◌, refl}
+use mathlib.Core.Path.{◌≡◌, refl, ap}
 use mathlib.Core.Bool.{Bool, true, false, cond, ◌&&◌, false≢true}
 use mathlib.Core.List.{List, [], ◌∷◌}
 use Prim.Native.Nat.{ℕ, zero, suc, ◌+◌, ◌-◌, ◌*◌, ◌/◌, ◌%◌, ◌^◌, ◌≤◌, ◌<◌}
@@ -19,12 +19,12 @@ use Rattle.station.specs.Rules.{field_rules}
 use Rattle.files.specs.Files.{record_at}
 use Rattle.stations.specs.Stations.{code_at, reference_at, operator_at, transmit_at, field_of}
 use Rattle.stations.proofs.GoodLaws.{holding}
-use Rattle.hundredths.specs.declared.Hundredths.{Hundredths}
-use Rattle.hundredths.specs.declared.Hundredths.TheVariants as hundredths
 use Rattle.hundredths.specs.Hundredths.{hundredths_of}
 use Rattle.hundredths.proofs.StepLaws.{hundredths_below}
-use Rattle.operator_counts.specs.declared.Heard.TheVariants as heard
+use Rattle.operator_counts.specs.declared.Heard.{Heard}
 use Rattle.operator_counts.specs.Counts.{heard_at, sent_by, operators}
+use Rattle.std.specs.Prelude.{Some, None}
+use Rattle.std.proofs.lemmas.Option.{same_Some}
 
 -- Places of a field that passes, from one on,
 each-drop : (m : ℕ) (tests : List (ℕ → Bool)) (p : List ℕ) → each tests p ≡ true → each (drop m tests) (drop m p) ≡ true
@@ -119,26 +119,26 @@ number_spelt (a ∷ b ∷ []) e =
 number_spelt (a ∷ b ∷ c ∷ p) e = absurd (false≢true (and_split (is_digit b) false (and_split (is_digit a) (is_digit b && false) e).1).1)
 
 -- The operator of a station that is heard of has a number below a hundred.
-pub heard_below : (file : List ℕ) (k c : ℕ) (a : Hundredths) → heard_at file k ≡ heard.Station c a → c < operators
+pub heard_below : (file : List ℕ) (k : ℕ) (x : Heard) → heard_at file k ≡ Some x → x.operator < operators
 unfolding heard_at
-heard_below file k c a e = by (eqb (code_at file k) 0) refl e
+heard_below file k x e = by (eqb (code_at file k) 0) refl e
   where
-    by : (b : Bool) → eqb (code_at file k) 0 ≡ b → cond b (heard.Station (number (operator_at file k)) (hundredths_of (transmit_at file k))) heard.Nothing ≡ heard.Station c a → c < operators
-    by true t x =
-        let n : number (operator_at file k) ≡ c = cc in
+    by : (b : Bool) → eqb (code_at file k) 0 ≡ b → cond b (Some (record { operator = number (operator_at file k); transmit = hundredths_of (transmit_at file k) })) None ≡ Some x → x.operator < operators
+    by true t q =
+        let n : number (operator_at file k) ≡ x.operator = ap (λ (y : Heard). y.operator) (same_Some _ x q) in
         omega (arith, n, number_below (operator_at file k) (operator_digits file k (eqb-true (code_at file k) 0 t)))
-    by false t x = let z : ◌≡◌ {A = ℕ} 0 1 = cc in absurd (omega arith)
+    by false t q = let z : ◌≡◌ {A = ℕ} 0 1 = cc in absurd (omega arith)
 
 -- A frequency that is heard of an operator has sixteen digits at most.
 module _ (file : List ℕ) (k c m : ℕ) where
-  own_below : code_at file k ≡ 0 → (b : Bool) → cond b (hundredths_of (transmit_at file k)) hundredths.Blank ≡ hundredths.Filled m → m < 10 ^ 16
+  own_below : code_at file k ≡ 0 → (b : Bool) → cond b (hundredths_of (transmit_at file k)) None ≡ Some m → m < 10 ^ 16
   own_below good true e = hundredths_below (transmit_at file k) (transmit_fits file k good) m e
   own_below good false e = absurd (let z : ◌≡◌ {A = ℕ} 0 1 = cc in omega arith)
 
-  pub sent_below : sent_by c (heard_at file k) ≡ hundredths.Filled m → m < 10 ^ 16
+  pub sent_below : sent_by c (heard_at file k) ≡ Some m → m < 10 ^ 16
   unfolding heard_at
   sent_below = by (eqb (code_at file k) 0) refl
     where
-      by : (b : Bool) → eqb (code_at file k) 0 ≡ b → sent_by c (cond b (heard.Station (number (operator_at file k)) (hundredths_of (transmit_at file k))) heard.Nothing) ≡ hundredths.Filled m → m < 10 ^ 16
+      by : (b : Bool) → eqb (code_at file k) 0 ≡ b → sent_by c (cond b (Some (record { operator = number (operator_at file k); transmit = hundredths_of (transmit_at file k) })) None) ≡ Some m → m < 10 ^ 16
       by true good e = own_below (eqb-true (code_at file k) 0 good) (eqb (number (operator_at file k)) c) e
       by false bad e = absurd (let z : ◌≡◌ {A = ℕ} 0 1 = cc in omega arith)

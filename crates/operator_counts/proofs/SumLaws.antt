@@ -12,14 +12,13 @@ use Rattle.numerals.specs.Numbers.{number}
 use Rattle.forms.specs.Counting.{count}
 use Rattle.forms.proofs.CountLaws.{count_cong}
 use Rattle.stations.specs.Stations.{code_at, operator_at, transmit_at}
-use Rattle.hundredths.specs.declared.Hundredths.{Hundredths}
 use Rattle.hundredths.specs.Hundredths.{extreme, hundredths_of}
 use Rattle.operator_counts.specs.declared.Heard.{Heard}
-use Rattle.operator_counts.specs.declared.Heard.TheVariants as heard
 use Rattle.operator_counts.specs.declared.Tally.{Tally}
 use Rattle.operator_counts.specs.Counts.{operators, heard_at, tally_of, added_to}
 use Rattle.operator_counts.proofs.HeardLaws.{heard_below}
 use Rattle.operator_counts.proofs.TallyLaws.{tally_nothing, tally_other, tally_own}
+use Rattle.std.specs.Prelude.{Option, None, Some}
 
 -- g 0 + .. + g (k - 1).
 unfoldable pub sum_to : (ℕ → ℕ) → ℕ → ℕ
@@ -53,21 +52,21 @@ module _ (g g' : ℕ → ℕ) (d : ℕ) (same : (c : ℕ) → (c ≡ d → ⊥) 
   ]
 
 -- A station is heard of.
-abbrev is_heard : Heard → Bool
-is_heard heard.Nothing = false
-is_heard (heard.Station d a) = true
+abbrev is_heard : Option Heard → Bool
+is_heard None = false
+is_heard (Some x) = true
 
 -- the stations of each operator
-abbrev stations_by : (ℕ → Heard) → ℕ → ℕ → ℕ
+abbrev stations_by : (ℕ → Option Heard) → ℕ → ℕ → ℕ
 stations_by h n c = (tally_of h n c).stations
 
-module _ (h : ℕ → Heard) (small : (k d : ℕ) (a : Hundredths) → h k ≡ heard.Station d a → d < operators) where
-  one_more : (n : ℕ) (x : Heard) → h (suc n) ≡ x → sum_to (stations_by h (suc n)) operators ≡ sum_to (stations_by h n) operators + cond (is_heard x) 1 0
+module _ (h : ℕ → Option Heard) (small : (k : ℕ) (x : Heard) → h k ≡ Some x → x.operator < operators) where
+  one_more : (n : ℕ) (x : Option Heard) → h (suc n) ≡ x → sum_to (stations_by h (suc n)) operators ≡ sum_to (stations_by h n) operators + cond (is_heard x) 1 0
   unfolding added_to
-  one_more n heard.Nothing e = omega (arith, sum_same (stations_by h n) (stations_by h (suc n)) (λ c. ap (λ (t : Tally). t.stations) (tally_nothing h n c e)) operators)
-  one_more n (heard.Station d a) e =
-      sum_above (stations_by h n) (stations_by h (suc n)) d
-      (λ c o. ap (λ (t : Tally). t.stations) (tally_other h n c d a e o)) (ap (λ (t : Tally). t.stations) (tally_own h n d a e)) operators (small (suc n) d a e)
+  one_more n None e = omega (arith, sum_same (stations_by h n) (stations_by h (suc n)) (λ c. ap (λ (t : Tally). t.stations) (tally_nothing h n c e)) operators)
+  one_more n (Some x) e =
+      sum_above (stations_by h n) (stations_by h (suc n)) x.operator
+      (λ c o. ap (λ (t : Tally). t.stations) (tally_other h n c x e o)) (ap (λ (t : Tally). t.stations) (tally_own h n x e)) operators (small (suc n) x e)
 
   none : (k : ℕ) → sum_to (stations_by h 0) k ≡ 0
   unfolding sum_to tally_of
@@ -83,7 +82,7 @@ heard_good : (file : List ℕ) (k : ℕ) → is_heard (heard_at file k) ≡ eqb 
 unfolding heard_at
 heard_good file k = by (eqb (code_at file k) 0)
   where
-    by : (b : Bool) → is_heard (cond b (heard.Station (number (operator_at file k)) (hundredths_of (transmit_at file k))) heard.Nothing) ≡ b
+    by : (b : Bool) → is_heard (cond b (Some (record { operator = number (operator_at file k); transmit = hundredths_of (transmit_at file k) })) None) ≡ b
     by true = refl
     by false = refl
 

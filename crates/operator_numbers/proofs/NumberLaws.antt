@@ -11,7 +11,6 @@ use lib.Dec.{ltb, eqb}
 use lib.ListN.{length}
 use Rattle.numerals.specs.Numbers.{spell_whole}
 use Rattle.numerals.proofs.RoundTrip.{spelled_length}
-use Rattle.operator_numbers.specs.declared.Fraction.{Fraction}
 use Rattle.operator_numbers.specs.Frequencies.{digits_in, shortened}
 
 -- A number has k + 1 digits at most,

@@ -1,9 +1,7 @@
 -- Document 02, wish 9: frequencies as people read them. A text is the list of its bytes.
-use Rattle.std.specs.Prelude.{ℕ, zero, suc, ◌/◌, ◌%◌, cond, List, [], ◌++◌, ltb, eqb}
+use Rattle.std.specs.Prelude.{ℕ, zero, suc, ◌/◌, ◌%◌, cond, List, [], ◌++◌, ltb, eqb, Option, Some, None}
 use Rattle.columns.specs.Texts.{bytes}
 use Rattle.numerals.specs.Numbers.{spell_whole}
-use Rattle.hundredths.specs.declared.Hundredths.{Hundredths}
-use Rattle.hundredths.specs.declared.Hundredths.TheVariants as hundredths
 use Rattle.operator_numbers.specs.declared.Fraction.{Fraction}
 
 -- How many digits a number has, where they are k + 1 at most.
@@ -34,6 +32,6 @@ megahertz v = in_digits (v / per_megahertz) ++ (bytes "." ++ spell_fraction (sho
 
 -- The lowest or the highest frequency with the words before it, in hundredths of a hertz and in megahertz: ` lowest 89320000000 893.2 MHz`;
 -- nothing where there is none.
-unfoldable pub extreme_text : List ℕ → Hundredths → List ℕ
-extreme_text label hundredths.Blank = []
-extreme_text label (hundredths.Filled v) = label ++ (in_digits v ++ (bytes " " ++ (megahertz v ++ bytes " MHz")))
+unfoldable pub extreme_text : List ℕ → Option ℕ → List ℕ
+extreme_text label None = []
+extreme_text label (Some v) = label ++ (in_digits v ++ (bytes " " ++ (megahertz v ++ bytes " MHz")))

@@ -6,7 +6,6 @@ ghost use Rattle.numerals.specs.Numbers.{spell_whole};
 ghost use Rattle.printing.specs.Promises.{Appended};
 ghost use Rattle.operator_numbers.specs.Frequencies.{digits_in, in_digits, shortened, megahertz, extreme_text};
 
-use hundredths::Hundredths;
 use numeral_writing::put_whole;
 use printing::pieces::put_text;
 
@@ -33,13 +32,11 @@ fn digits_in(v: u64) -> usize
     ensures { (result ≡ digits_in 19 v) × (result ≤ 20) }
 {
     let mut rest = v;
-    let mut left: usize = 19;
-    while 0 < left {
+    for count in 1..20 {
         if rest < 10 {
-            return 20 - left;
+            return count;
         }
-        left = left - 1;
-        rest = rest / 10;
+        rest /= 10;
     }
     20
 }
@@ -58,16 +55,11 @@ fn without_zeros(fraction: u64) -> Fraction
     ensures { (result ≡ shortened 7 fraction) × (result.places ≤ 8) }
 {
     let mut digits = fraction;
-    let mut left: usize = 7;
-    while 0 < left {
+    for places in (2..9).rev() {
         if digits % 10 != 0 {
-            return Fraction {
-                places: left + 1,
-                digits,
-            };
+            return Fraction { places, digits };
         }
-        left = left - 1;
-        digits = digits / 10;
+        digits /= 10;
     }
     Fraction { places: 1, digits }
 }
@@ -85,14 +77,14 @@ fn put_megahertz(out: &mut [u8], start: usize, v: u64) -> usize
 }
 
 // Puts in the words before a frequency, the frequency in hundredths of a hertz and in megahertz; nothing where there is none. Answers where that ends.
-pub fn put_extreme(out: &mut [u8], start: usize, label: &[u8], a: Hundredths) -> usize
+pub fn put_extreme(out: &mut [u8], start: usize, label: &[u8], a: Option<u64>) -> usize
     requires { start + (length label.now + 54) ≤ length out.old }
     ensures appended { Appended out.old start (extreme_text label.now a) out.new result }
     ensures upper_bound { result ≤ start + (length label.now + 54) }
 {
     match a {
-        Hundredths::Blank => start,
-        Hundredths::Filled(v) => {
+        None => start,
+        Some(v) => {
             let label_end = put_text(out, start, label);
             let digits_end = put_digits_of(out, label_end, v);
             let space_end = put_text(out, digits_end, b" ");

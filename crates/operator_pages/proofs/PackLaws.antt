@@ -1,4 +1,5 @@
 -- The rows of the operators below c, moved to the front of a page.
+use Rattle.std.specs.Prelude.{Ok}
 use mathlib.Core.Path.{◌≡◌, refl, sym, ◌∙◌, ap}
 use mathlib.Core.List.{List, [], ◌∷◌, ◌++◌, append-nil}
 use Prim.Native.Nat.{ℕ, zero, suc, ◌+◌, ◌-◌, ◌≤◌, ◌<◌, zero-le}
@@ -8,7 +9,6 @@ use native.Mathlib.Decide.{dec_lt}
 use borrow.Author.Tests.{eq-eqb, ne_eqb}
 use lib.ListN.{length, set, replicate, length-append}
 use lib.Seq.{set_at, append_snoc}
-use Rattle.basics.specs.declared.Outcome.TheVariants as outcome
 use Rattle.operator_counts.specs.declared.Tally.{Tally}
 use Rattle.operator_counts.specs.Counts.{operators}
 use Rattle.operator_pages.specs.declared.OperatorRow.{OperatorRow}
@@ -61,7 +61,7 @@ pub record Packing (counts : List Tally) (rows : List OperatorRow) (n c : ℕ) :
   pub many : n ≡ length (rows_below (tally_in counts) c)
   pub stand : rows ≡ filled_up (rows_below (tally_in counts) c)
 
-pub packing_none : (counts : List Tally) (p : Page) → p ≡ paged outcome.Done [] → Packing counts p.rows 0 0 × (p.answer.outcome ≡ outcome.Done)
+pub packing_none : (counts : List Tally) (p : Page) → p ≡ paged (Ok tt) [] → Packing counts p.rows 0 0 × (p.answer.outcome ≡ Ok tt)
 unfolding rows_below paged
 packing_none counts p e = (record { most = zero-le; few = zero-le; many = refl; stand = ap (λ (q : Page). q.rows) e }, ap (λ (q : Page). q.answer.outcome) e)
 
@@ -91,8 +91,8 @@ module _ (counts : List Tally) (rows : List OperatorRow) (n c : ℕ) (p : Packin
       same = row_added (tally_in counts) c e
 
 -- All hundred are through.
-pub packing_done : (counts : List Tally) (p : Page) (n c : ℕ) → Packing counts p.rows n c → operators ≤ c → p.answer.outcome ≡ outcome.Done
-    → record { answer = record { outcome = p.answer.outcome; rows = n }; rows = p.rows } ≡ paged outcome.Done (rows_below (tally_in counts) operators)
+pub packing_done : (counts : List Tally) (p : Page) (n c : ℕ) → Packing counts p.rows n c → operators ≤ c → p.answer.outcome ≡ Ok tt
+    → record { answer = record { outcome = p.answer.outcome; rows = n }; rows = p.rows } ≡ paged (Ok tt) (rows_below (tally_in counts) operators)
 unfolding paged
 packing_done counts p n c k h o =
     let end : c ≡ operators = omega (arith, h, k.most) in

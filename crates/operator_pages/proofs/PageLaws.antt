@@ -1,4 +1,5 @@
 -- The cases of the call, and the rows that are given: at most a hundred, and no more than there is room for.
+use Rattle.std.specs.Prelude.{Ok, Err}
 use mathlib.Core.Path.{◌≡◌, refl, sym, ◌∙◌, ap}
 use mathlib.Core.Bool.{Bool, true, false, cond}
 use mathlib.Core.List.{List, [], ◌∷◌, ◌++◌}
@@ -8,9 +9,8 @@ use borrow.Author.Tests.{ltb-false, lt-ltb, le-ltb}
 use lib.Dec.{eqb}
 use lib.ListN.{length, take, length-append}
 use lib.Seq.{take_at}
-use Rattle.basics.specs.Outcomes.{refusal, first_refusal}
-use Rattle.basics.specs.declared.Outcome.{Outcome}
-use Rattle.basics.specs.declared.Outcome.TheVariants as outcome
+use Rattle.basics.specs.Outcomes.{refusal, first_refusal, Outcome}
+use Rattle.basics.specs.declared.Refusal.TheVariants as why
 use Rattle.basics.proofs.RefusalLaws.{done, if_done_lem, if_refused, passes, stops, none_left, none_applies, asked-on, ended-there}
 use Rattle.files.specs.Files.{stations}
 use Rattle.files.specs.Calls.{file_tests}
@@ -104,29 +104,29 @@ module _ (file : List ℕ) (room : ℕ) where
     all = rows_same (tally_in counts) (tally_of (heard_at file) (stations file)) operators (λ c l. rw counted (table_at (tally_of (heard_at file) (stations file)) no_tally operators c l))
 
     -- There is no room for their rows,
-    pub no_room : room < length (rows_below (tally_in counts) operators) → outcome.TooFewRows ≡ page_outcome file room
+    pub no_room : room < length (rows_below (tally_in counts) operators) → (Err why.TooFewRows) ≡ page_outcome file room
     unfolding refusal
-    no_room l = sym (on ∙ stops outcome.TooFewRows [] (lt-ltb room (length (page_of file)) (omega (arith, l, ap length all))))
+    no_room l = sym (on ∙ stops (Err why.TooFewRows) [] (lt-ltb room (length (page_of file)) (omega (arith, l, ap length all))))
 
     -- or there is, and they are given.
     module _ (l : length (rows_below (tally_in counts) operators) ≤ room) where
-      pub room-there : outcome.Done ≡ page_outcome file room
+      pub room-there : (Ok tt) ≡ page_outcome file room
       unfolding refusal
-      room-there = sym (on ∙ passes outcome.TooFewRows [] (le-ltb room (length (page_of file)) (omega (arith, l, ap length all))) ∙ none_left)
+      room-there = sym (on ∙ passes (Err why.TooFewRows) [] (le-ltb room (length (page_of file)) (omega (arith, l, ap length all))) ∙ none_left)
 
       pub given : rows_below (tally_in counts) operators ≡ rows_for file room
       unfolding refusal
       given = all ∙ sym (rows_all (ap done (sym room-there)))
 
     -- So it is where the rows were packed.
-    module _ (p : Page) (is : p ≡ paged outcome.Done (rows_below (tally_in counts) operators)) where
+    module _ (p : Page) (is : p ≡ paged (Ok tt) (rows_below (tally_in counts) operators)) where
       many : p.answer.rows ≡ length (rows_below (tally_in counts) operators)
       unfolding paged
       many = ap (λ (q : Page). q.answer.rows) is
 
-      pub packed_refused : (q : Page) → room < p.answer.rows → q ≡ paged outcome.TooFewRows [] → q ≡ paged (page_outcome file room) (rows_for file room)
+      pub packed_refused : (q : Page) → room < p.answer.rows → q ≡ paged (Err why.TooFewRows) [] → q ≡ paged (page_outcome file room) (rows_for file room)
       unfolding refusal
-      packed_refused q l e = refusing outcome.TooFewRows q (no_room (omega (arith, l, many))) refl e
+      packed_refused q l e = refusing (Err why.TooFewRows) q (no_room (omega (arith, l, many))) refl e
 
       pub packed_given : p.answer.rows ≤ room → p ≡ paged (page_outcome file room) (rows_for file room)
       packed_given l =

@@ -1,9 +1,8 @@
 -- Document 02, wish 9: how a page ends, and what it leaves in the lent rows.
-use Rattle.std.specs.Prelude.{ℕ, ◌-◌, List, [], ◌∷◌, ◌++◌, length, get_or, drop, replicate, ltb}
+use Rattle.std.specs.Prelude.{ℕ, ◌-◌, List, [], ◌∷◌, ◌++◌, length, get_or, drop, replicate, ltb, Err}
 use Rattle.columns.specs.Texts.{bytes}
-use Rattle.basics.specs.Outcomes.{if_done, Test, when, first_refusal}
-use Rattle.basics.specs.declared.Outcome.{Outcome}
-use Rattle.basics.specs.declared.Outcome.TheVariants as outcome
+use Rattle.basics.specs.Outcomes.{if_done, Test, when, first_refusal, Outcome}
+use Rattle.basics.specs.declared.Refusal.TheVariants as why
 use Rattle.files.specs.Calls.{file_tests}
 use Rattle.operator_counts.specs.Counts.{operators, no_tally}
 use Rattle.operator_pages.specs.declared.OperatorRow.{OperatorRow}
@@ -13,7 +12,7 @@ use Rattle.operator_pages.specs.Pages.{page_of}
 
 -- Refusal 17: the lent list has fewer rows than operators found.
 abbrev pub room_test : List ℕ → ℕ → Test
-room_test file room = when (ltb room (length (page_of file))) outcome.TooFewRows
+room_test file room = when (ltb room (length (page_of file))) (Err why.TooFewRows)
 
 -- A page uses 1, 2 and 17.
 unfoldable pub page_outcome : List ℕ → ℕ → Outcome

@@ -1,17 +1,14 @@
 // The page of a file: a row for each operator that has a station with code 0, ascending by code.
 #![tactic(auto)]
 
-ghost use Rattle.std.specs.Prelude.{◌≡◌, [], ◌<◌, length};
-ghost use Rattle.basics.specs.declared.Outcome.TheVariants as outcome;
+ghost use Rattle.std.specs.Prelude.{◌≡◌, [], ◌<◌, length, Ok};
 ghost use Rattle.operator_counts.specs.Counts.{operators};
 ghost use Rattle.operator_pages.specs.Pages.{operator_row, rows_below, tally_in};
 ghost use Rattle.operator_pages.specs.Calls.{paged, page_row};
 ghost use Rattle.operator_pages.specs.Promises.{PageFound};
 
-use basics::Outcome;
-use basics::outcomes::is_done;
+use basics::Refusal;
 use files::lengths::{check_file, stations_in};
-use hundredths::Hundredths;
 use operator_counts::{OPERATORS, Tally, tallies};
 
 // A row of a page: the operator's code, two digits, and what is counted of it.
@@ -24,7 +21,7 @@ pub struct OperatorRow {
 // How a page ended, and how many rows it has.
 #[derive(Clone, Copy)]
 pub struct PageAnswer {
-    pub outcome: Outcome,
+    pub outcome: Result<(), Refusal>,
     pub rows: usize,
 }
 
@@ -52,27 +49,24 @@ pub fn operator_row(c: usize, tally: Tally) -> OperatorRow
 pub fn operators_in(counts: [Tally; OPERATORS]) -> usize
     ensures { result ≡ length (rows_below (tally_in counts) operators) }
 {
-    let mut found: usize = 0;
-    let mut c: usize = 0;
-    while c < OPERATORS {
-        let tally = counts[c];
-        c = c + 1;
+    let mut found = 0;
+    for tally in &counts {
         if tally.stations != 0 {
-            found = found + 1;
+            found += 1;
         }
     }
     found
 }
 
 // A page without rows.
-fn no_rows(outcome: Outcome) -> Page
+fn no_rows(outcome: Result<(), Refusal>) -> Page
     ensures { result ≡ paged outcome [] }
 {
     let none = Tally {
         stations: 0,
         transmitting: 0,
-        lowest: Hundredths::Blank,
-        highest: Hundredths::Blank,
+        lowest: None,
+        highest: None,
     };
     let blank = OperatorRow {
         code: [32, 32],
@@ -86,18 +80,15 @@ fn no_rows(outcome: Outcome) -> Page
 
 // The rows of the operators that have stations, moved to the front.
 fn packed(counts: [Tally; OPERATORS]) -> Page
-    ensures { result ≡ paged outcome.Done (rows_below (tally_in counts) operators) }
+    ensures { result ≡ paged (Ok tt) (rows_below (tally_in counts) operators) }
 {
-    let mut page = no_rows(Outcome::Done);
-    let mut n: usize = 0;
-    let mut c: usize = 0;
-    while c < OPERATORS {
+    let mut page = no_rows(Ok(()));
+    let mut n = 0;
+    for c in 0..OPERATORS {
         let tally = counts[c];
-        let row = operator_row(c, tally);
-        c = c + 1;
         if tally.stations != 0 {
-            page.rows[n] = row;
-            n = n + 1;
+            page.rows[n] = operator_row(c, tally);
+            n += 1;
         }
     }
     page.answer.rows = n;
@@ -109,13 +100,13 @@ pub fn page_for(file: &[u8], room: usize) -> Page
     ensures { PageFound file.now room result }
 {
     let outcome = check_file(file);
-    if !is_done(outcome) {
+    if outcome.is_err() {
         return no_rows(outcome);
     }
     let page = packed(tallies(file, stations_in(file)));
     let answer = page.answer;
     if room < answer.rows {
-        return no_rows(Outcome::TooFewRows);
+        return no_rows(Err(Refusal::TooFewRows));
     }
     page
 }

@@ -5,8 +5,7 @@ use mathlib.Core.List.{List, [], ◌∷◌, ◌++◌}
 use Prim.Native.Nat.{ℕ, zero, suc, ◌+◌, ◌-◌, ◌<◌}
 use native.Mathlib.Omega.{arith}
 use lib.ListN.{length, get_or}
-use Rattle.basics.specs.Outcomes.{refusal, if_done}
-use Rattle.basics.specs.declared.Outcome.{Outcome}
+use Rattle.basics.specs.Outcomes.{refusal, if_done, Outcome}
 use Rattle.basics.proofs.RefusalLaws.{done, if_done_lem, if_refused}
 use Rattle.files.specs.Files.{stations}
 use Rattle.forms.specs.Counting.{rows}

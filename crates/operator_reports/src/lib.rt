@@ -9,7 +9,7 @@ ghost use Rattle.operator_pages.specs.Calls.{page_row};
 ghost use Rattle.operator_lines.specs.Lines.{page_line, page_sum, page_lines};
 ghost use Rattle.operator_lines.specs.Promises.{OperatorsWritten};
 
-use basics::outcomes::{is_done, refusal_number};
+use basics::outcomes::refusal_number;
 use files::lengths::stations_in;
 use operator_counts::OPERATORS;
 use operator_lines::{put_operator, put_operators_total};
@@ -25,12 +25,9 @@ fn put_operators(out: &mut [u8], page: Page, n: usize) -> usize
     ensures appended { Appended out.old 0 (rows (page_line page) n) out.new result }
     ensures upper_bound { result ≤ 197 * n }
 {
-    let mut end: usize = 0;
-    let mut i: usize = 0;
-    while i < n {
-        let row = row_at(page, i);
-        end = put_operator(out, end, row);
-        i = i + 1;
+    let mut end = 0;
+    for i in 0..n {
+        end = put_operator(out, end, row_at(page, i));
     }
     end
 }
@@ -40,13 +37,9 @@ fn stations_on(page: Page, n: usize) -> u64
     requires { n ≤ operators }
     ensures { result ≡ page_sum page n }
 {
-    let mut sum: u64 = 0;
-    let mut i: usize = 0;
-    while i < n {
-        let row = row_at(page, i);
-        let tally = row.tally;
-        sum = sum + tally.stations as u64;
-        i = i + 1;
+    let mut sum = 0;
+    for i in 0..n {
+        sum += row_at(page, i).tally.stations as u64;
     }
     sum
 }
@@ -68,7 +61,7 @@ pub fn write_operators(file: &[u8], out: &mut [u8; LONGEST_PAGE]) -> usize
     let page = page_for(file, OPERATORS);
     let answer = page.answer;
     let outcome = answer.outcome;
-    if !is_done(outcome) {
+    if outcome.is_err() {
         return put_refused(out, 0, refusal_number(outcome));
     }
     put_lines(out, page, answer.rows, stations_in(file))

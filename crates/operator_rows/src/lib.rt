@@ -12,10 +12,8 @@ pub fn put_page(file: &[u8], rows: &mut [OperatorRow]) -> PageAnswer
     let page = page_for(file, rows.len());
     let answer = page.answer;
     let n = answer.rows;
-    let mut i: usize = 0;
-    while i < n {
+    for i in 0..n {
         rows[i] = row_at(page, i);
-        i = i + 1;
     }
     answer
 }

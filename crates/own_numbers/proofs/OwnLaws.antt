@@ -16,7 +16,6 @@ use Rattle.columns.specs.Texts.{every, same}
 use Rattle.numerals.specs.Numbers.{number_from, number, whole_of, amount, spell_digits, spell_whole, is_negative}
 use Rattle.decimals.specs.Decimals.{spell_magnitude, spell_decimal}
 use Rattle.formats.specs.Tenths.{tenths_of, spell_tenths}
-use Rattle.numerals.specs.declared.Whole.TheVariants as whole
 use Rattle.columns.proofs.TextLaws.{and_split}
 use Rattle.columns.proofs.ColumnLaws.{either}
 use Rattle.columns.proofs.SameLaws.{same_refl}
@@ -24,6 +23,7 @@ use Rattle.numerals.proofs.NumberLaws.{digit_range, number_below, digits_below}
 use Rattle.numerals.proofs.RoundTrip.{whole_trip}
 use Rattle.decimals.proofs.DecimalTrip.{decimal_trip}
 use Rattle.own_numbers.specs.OwnNumbers.{digits_around, signed_around}
+use Rattle.std.specs.Prelude.{Some, Ok}
 
 -- the first of the digits that are spelled
 first_digit : (k m : ℕ) (t : List ℕ) → spell_digits (suc k) m t ≡ (48 + m / 10 ^ k % 10) ∷ spell_digits k m t
@@ -59,7 +59,7 @@ digits_own (c ∷ xs) v t e =
 pub own_says : (p : List ℕ) → every is_digit p ≡ true → spell_whole (length p) (number p) ≡ p
 own_says p e = digits_own p 0 [] e ∙ append-nil p
 
-pub whole_says : (p : List ℕ) → 1 ≤ length p → length p ≤ 18 → every is_digit p ≡ true → whole_of p ≡ whole.Filled (number p)
+pub whole_says : (p : List ℕ) → 1 ≤ length p → length p ≤ 18 → every is_digit p ≡ true → whole_of p ≡ Ok (Some (number p))
 whole_says p one few e =
     ap whole_of (sym (own_says p e)) ∙ whole_trip (length p) (number p) one few (digits_below (length p) p e (omega arith))
 

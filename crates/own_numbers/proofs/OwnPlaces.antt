@@ -14,11 +14,11 @@ use borrow.Author.Tests.{eqb-true, leb-true}
 use Rattle.columns.specs.Sets.{among, is_digit}
 use Rattle.columns.specs.Texts.{every, sized}
 use Rattle.numerals.specs.Numbers.{number, whole_of, whole_filled, spell_digits}
-use Rattle.numerals.specs.declared.Whole.TheVariants as whole
 use Rattle.positions.specs.Positions.{whole_at, whole_there, arc_seconds, arc_good, arc_of, position_good, position_of, spell_arc, spell_position}
 use Rattle.columns.proofs.TextLaws.{and_split, every_take, every_drop}
 use Rattle.own_numbers.specs.OwnNumbers.{digits_around}
 use Rattle.own_numbers.proofs.OwnLaws.{Around, around, digits_own, whole_says}
+use Rattle.std.specs.Prelude.{Some, Ok}
 
 -- degrees, minutes and seconds are found in the seconds that they make
 apart : (g m s : ℕ) → m ≤ 59 → s ≤ 59 → ((3600 * g + 60 * m + s) / 3600 ≡ g) × ((3600 * g + 60 * m + s) / 60 % 60 ≡ m) × ((3600 * g + 60 * m + s) % 60 ≡ s)
@@ -62,13 +62,13 @@ module _ (d degrees : ℕ) (plus minus : Char) (letters : String) (one : 1 ≤ d
       let three : d + 1 + 2 ≡ d + 3 = omega arith in
       ap (λ (k : ℕ). take 2 (drop k p)) (sym three) ∙ ap (take 2) (sym (drop-drop 2 (d + 1) p)) ∙ take_all 2 end (omega (arith, end_length))
 
-  degrees_say : whole_of (take d p) ≡ whole.Filled (number front)
+  degrees_say : whole_of (take d p) ≡ Ok (Some (number front))
   degrees_say = whole_says front (omega (arith, front_length)) (omega (arith, front_length)) h.front
 
-  minutes_say : whole_of (take 2 (drop (d + 1) p)) ≡ whole.Filled (number middle)
+  minutes_say : whole_of (take 2 (drop (d + 1) p)) ≡ Ok (Some (number middle))
   minutes_say = whole_says middle (omega (arith, middle-length)) (omega (arith, middle-length)) middle_digits
 
-  seconds_say : whole_of (take 2 (drop (d + 3) p)) ≡ whole.Filled (number end)
+  seconds_say : whole_of (take 2 (drop (d + 3) p)) ≡ Ok (Some (number end))
   seconds_say = ap whole_of end_is ∙ whole_says end (omega (arith, end_length)) (omega (arith, end_length)) end_digits
 
   -- minutes and seconds are below sixty

@@ -15,16 +15,14 @@ use Rattle.numerals.specs.Numbers.{number, passes, in_sign, unsigned, spell_digi
 use Rattle.decimals.specs.Decimals.{magnitude_of, admits_decimal, decimal_of, spell_decimal}
 use Rattle.formats.specs.Tenths.{in_tenths, tenths_of, spell_tenths}
 use Rattle.days.specs.Dates.{date_rule, date_in, date_reads, unread_date, date_of, day_passes, in_day, day_good, day_of, spell_date, spell_day}
-use Rattle.days.specs.declared.dates.Dated.TheVariants as dated
 use Rattle.frequencies.specs.Frequencies.{amount_good, above_zero, unit_good, unit_of, unit_letter, in_unit, frequency_of, spell_amount, spell_unit}
 use Rattle.frequencies.specs.declared.Hertz.{Hertz}
-use Rattle.numerals.specs.declared.Whole.{Whole}
-use Rattle.numerals.specs.declared.Whole.TheVariants as whole
-use Rattle.numerals.specs.declared.Signed.{Signed}
-use Rattle.numerals.specs.declared.Signed.TheVariants as signed
 use Rattle.columns.proofs.TextLaws.{and_split, each-replicate, every_take, every_drop, blank-spaces}
 use Rattle.columns.proofs.ColumnLaws.{either}
 use Rattle.own_numbers.proofs.OwnLaws.{digits_own}
+use Rattle.std.specs.Prelude.{Option, Some, None, Result, Ok, Err, ℤ}
+use Rattle.flaws.specs.declared.Flaw.{Flaw}
+use Rattle.numerals.specs.declared.Unread.{Unread}
 
 -- One byte that keeps its rule is all there is.
 pub byte_stays : (test : ℕ → Bool) (p : List ℕ) → byte_good test p ≡ true → head p ∷ [] ≡ p
@@ -60,8 +58,8 @@ pub day_stays : (p : List ℕ) → length p ≡ 8 → day_good p ≡ true → sp
 unfolding day_good day_of date_of date_reads spell_day
 day_stays p n e = by (blank p) refl (each (replicate 8 is_digit) p) refl (date_rule (date_in p)) e where
   by : (b : Bool) → blank p ≡ b → (r : Bool) → each (replicate 8 is_digit) p ≡ r → (d : Bool)
-      → day_passes (cond b dated.Blank (cond (r && d) (dated.Filled (date_in p)) (dated.Bad (unread_date p)))) ≡ true
-      → spell_day (in_day (cond b dated.Blank (cond (r && d) (dated.Filled (date_in p)) (dated.Bad (unread_date p))))) ≡ p
+      → day_passes (cond b (Ok None) (cond (r && d) (Ok (Some (date_in p))) (Err (unread_date p)))) ≡ true
+      → spell_day (in_day (cond b (Ok None) (cond (r && d) (Ok (Some (date_in p))) (Err (unread_date p))))) ≡ p
   by true q r f d e = ap (λ (k : ℕ). replicate k 32) (sym n) ∙ blank-spaces p q
   by false q true f true e = eight_own p n (and_split (eqb (length p) 8) (every is_digit p) (sym (each-replicate 8 is_digit p) ∙ f)).1
   by false q true f false e = absurd (false≢true e)
@@ -79,20 +77,20 @@ letter_own c e =
 pub unit_stays : (p q : List ℕ) → amount_good p ≡ true → unit_good p q ≡ true → spell_unit (frequency_of p q) ≡ q
 unfolding amount_good unit_good frequency_of decimal_of spell_unit byte_good
 unit_stays p q e f = by (blank p) (magnitude_of 5 5 (unsigned false (skip p))) e f where
-  by : (b : Bool) (w : Whole)
-      → passes above_zero (cond b signed.Blank (in_sign (unread (admits_decimal false) p) false w)) ≡ true
+  by : (b : Bool) (w : Result (Option ℕ) Unread)
+      → passes above_zero (cond b (Ok None) (in_sign (unread (admits_decimal false) p) false w)) ≡ true
       → cond b (byte_good (is " ") q) (byte_good (among "kMG") q) ≡ true
-      → spell_unit (in_unit (cond b signed.Blank (in_sign (unread (admits_decimal false) p) false w)) (unit_of (head q))) ≡ q
+      → spell_unit (in_unit (cond b (Ok None) (in_sign (unread (admits_decimal false) p) false w)) (unit_of (head q))) ≡ q
   by true w e f = ap (λ (c : ℕ). c ∷ []) (sym (eqb-true (head q) 32 (byte_is (is " ") q f))) ∙ byte_stays (is " ") q f
-  by false whole.Bad e f = absurd (false≢true e)
-  by false whole.Blank e f = absurd (false≢true e)
-  by false (whole.Filled v) e f = rw (letter_own (head q) (byte_is (among "kMG") q f)) (byte_stays (among "kMG") q f)
+  by false (Err bad) e f = absurd (false≢true e)
+  by false (Ok None) e f = absurd (false≢true e)
+  by false (Ok (Some v)) e f = rw (letter_own (head q) (byte_is (among "kMG") q f)) (byte_stays (among "kMG") q f)
 
 -- The amount of a frequency is a decimal, blank where it says none.
 pub amount_anew : (p q : List ℕ) → spell_amount (frequency_of p q) ≡ spell_tenths 5 5 false (tenths_of 5 5 false p)
 unfolding spell_amount frequency_of spell_tenths tenths_of spell_decimal
 amount_anew p q = by (decimal_of 5 5 false p) (unit_of (head q)) where
-  by : (d : Signed) (u : Hertz) → spell_amount (in_unit d u) ≡ spell_tenths 5 5 false (in_tenths d)
-  by (signed.Bad wrong) u = refl
-  by signed.Blank u = refl
-  by (signed.Filled z) u = refl
+  by : (d : Result (Option ℤ) Flaw) (u : Hertz) → spell_amount (in_unit d u) ≡ spell_tenths 5 5 false (in_tenths d)
+  by (Err wrong) u = refl
+  by (Ok None) u = refl
+  by (Ok (Some z)) u = refl

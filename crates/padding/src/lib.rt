@@ -107,6 +107,7 @@ fn spaces_before(side: Side, w: usize, n: usize) -> usize
 }
 
 // Puts a text into lent bytes, from the given place on.
+// Not printing::pieces::put_text, which answers where it ends too: for that one line six crates more would stand below this one.
 pub fn put_text(out: &mut [u8], start: usize, text: &[u8])
     requires { start + length text.now ≤ length out.old }
     ensures { out.new ≡ take start out.old ++ (text.now ++ drop (start + length text.now) out.old) }

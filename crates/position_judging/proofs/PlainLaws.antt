@@ -16,9 +16,9 @@ use Rattle.columns.specs.Frames.{frames}
 use Rattle.columns.proofs.TextLaws.{and_split}
 use Rattle.columns.proofs.PlaceLaws.{framed_at}
 use Rattle.numerals.specs.Numbers.{number_from, whole_of}
-use Rattle.numerals.specs.declared.Whole.TheVariants as whole
 use Rattle.numerals.proofs.NumberLaws.{whole_plain}
 use Rattle.positions.specs.Positions.{arc_seconds, arc_good, position_good}
+use Rattle.std.specs.Prelude.{Some, Ok}
 
 -- The byte at i is from low up to high.
 abbrev pub Holds : ℕ → ℕ → List ℕ → ℕ → Type 0
@@ -30,7 +30,7 @@ digit_in c l h = rw (le-leb 48 c l, le-leb c 57 h)
 
 -- two columns of digits from i on
 pub two_digits : (p : List ℕ) (i : ℕ) → i + 2 ≤ length p → Holds 48 57 p i → Holds 48 57 p (i + 1)
-    → whole_of (take 2 (drop i p)) ≡ whole.Filled ((get_or p i 0 - 48) * 10 + (get_or p (i + 1) 0 - 48))
+    → whole_of (take 2 (drop i p)) ≡ Ok (Some ((get_or p i 0 - 48) * 10 + (get_or p (i + 1) 0 - 48)))
 unfolding every number_from
 two_digits p i h x y =
     let x' = get_or p i 0 in
@@ -38,11 +38,11 @@ two_digits p i h x y =
     let there : drop i p ≡ x' ∷ y' ∷ drop (suc (suc i)) p = drop-cons p i 0 (omega arith) ∙ ap (λ (l : List ℕ). x' ∷ l) (rw (add-one i) (drop-cons p (suc i) 0 (omega arith))) in
     rw there
     (whole_plain (x' ∷ y' ∷ []) (rw (digit_in x' x.0 x.1, digit_in y' y.0 y.1)) (omega arith) (omega arith)
-    ∙ ap whole.Filled (omega arith))
+    ∙ ap (λ (n : ℕ). Ok (Some n)) (omega arith))
 
 -- three columns of digits stand first
 pub three_digits : (p : List ℕ) → 3 ≤ length p → Holds 48 57 p 0 → Holds 48 57 p 1 → Holds 48 57 p 2
-    → whole_of (take 3 p) ≡ whole.Filled ((get_or p 0 0 - 48) * 100 + (get_or p 1 0 - 48) * 10 + (get_or p 2 0 - 48))
+    → whole_of (take 3 p) ≡ Ok (Some ((get_or p 0 0 - 48) * 100 + (get_or p 1 0 - 48) * 10 + (get_or p 2 0 - 48)))
 unfolding every number_from
 three_digits p h x y z =
     let x' = get_or p 0 0 in
@@ -51,10 +51,10 @@ three_digits p h x y z =
     let there : p ≡ x' ∷ y' ∷ z' ∷ drop 3 p = drop-cons p 0 0 (omega arith) ∙ ap (λ (l : List ℕ). x' ∷ l) (drop-cons p 1 0 (omega arith) ∙ ap (λ (l : List ℕ). y' ∷ l) (drop-cons p 2 0 (omega arith))) in
     ap (λ (l : List ℕ). whole_of (take 3 l)) there
     ∙ whole_plain (x' ∷ y' ∷ z' ∷ []) (rw (digit_in x' x.0 x.1, digit_in y' y.0 y.1, digit_in z' z.0 z.1)) (omega arith) (omega arith)
-    ∙ ap whole.Filled (omega arith)
+    ∙ ap (λ (n : ℕ). Ok (Some n)) (omega arith)
 
 -- one half with n degrees
-pub plain_half : (d : ℕ) (letters : String) (degrees n : ℕ) (p : List ℕ) → d + 5 ≤ length p → whole_of (take d p) ≡ whole.Filled n → n < degrees → among letters (get_or p d 0) ≡ true
+pub plain_half : (d : ℕ) (letters : String) (degrees n : ℕ) (p : List ℕ) → d + 5 ≤ length p → whole_of (take d p) ≡ Ok (Some n) → n < degrees → among letters (get_or p d 0) ≡ true
     → Holds 48 53 p (d + 1) → Holds 48 57 p (d + 1 + 1) → Holds 48 53 p (d + 3) → Holds 48 57 p (d + 3 + 1) → arc_good d letters degrees p ≡ true
 unfolding arc_good arc_seconds
 plain_half d letters degrees n p l e h a m₁ m₂ s₁ s₂ =

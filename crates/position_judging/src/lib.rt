@@ -6,7 +6,7 @@ ghost use Rattle.positions.specs.Positions.{position_good};
 
 use arcs::is_hemisphere;
 use columns::texts::is_framed;
-use positions::{Located, read_position};
+use positions::read_position;
 
 // Whether a position stands in its one spelling, below 180 degrees and 90: it can be read. All columns are asked at once, the last eight with one of the first.
 fn is_plain(s: &[u8]) -> bool
@@ -28,8 +28,5 @@ pub fn is_position(s: &[u8]) -> bool
     if is_plain(s) {
         return true;
     }
-    match read_position(s) {
-        Located::Bad(_) => false,
-        Located::Filled(_) => true,
-    }
+    read_position(s).is_ok()
 }

@@ -12,12 +12,13 @@ use lib.Dec.{leb, eqb}
 use borrow.Author.Tests.{leb-true}
 use Rattle.columns.specs.Sets.{among}
 use Rattle.numerals.specs.Numbers.{whole_of, whole_filled, amount, with_sign}
-use Rattle.numerals.specs.declared.Whole.{Whole}
 use Rattle.columns.proofs.TextLaws.{and_split}
 use Rattle.positions.specs.Positions.{whole_there, arc_seconds, arc_good, arc_of, arc_reads}
+use Rattle.std.specs.Prelude.{Option, Result}
+use Rattle.numerals.specs.declared.Unread.{Unread}
 
 -- the columns of one half, as they were read
-module _ (d : ℕ) (p : List ℕ) {g m s : Whole} {c : ℕ} (h : (g ≡ whole_of (take d p)) × (c ≡ get_or p d 0) × (m ≡ whole_of (take 2 (drop (d + 1) p))) × (s ≡ whole_of (take 2 (drop (d + 3) p)))) where
+module _ (d : ℕ) (p : List ℕ) {g m s : Result (Option ℕ) Unread} {c : ℕ} (h : (g ≡ whole_of (take d p)) × (c ≡ get_or p d 0) × (m ≡ whole_of (take 2 (drop (d + 1) p))) × (s ≡ whole_of (take 2 (drop (d + 3) p)))) where
   -- keep its rule where it does,
   pub arc_good_lem : (plus minus : Char) (degrees : ℕ)
       → ((whole_filled g && leb (amount g) degrees) && (eqb c (code plus) || (eqb c (code minus) || false)) && (whole_filled m && leb (amount m) 59) && (whole_filled s && leb (amount s) 59) && leb (3600 * amount g + 60 * amount m + amount s) (3600 * degrees))

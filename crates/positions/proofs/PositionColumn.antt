@@ -14,13 +14,13 @@ use borrow.Author.Tests.{eq-eqb, leb-true, le-leb}
 use Rattle.columns.specs.Sets.{is, among}
 use Rattle.columns.specs.Texts.{sized}
 use Rattle.numerals.specs.Numbers.{whole_of, with_sign, is_negative, spell_digits, spell_whole}
-use Rattle.numerals.specs.declared.Whole.TheVariants as whole
 use Rattle.columns.proofs.TextLaws.{and_split, and_both}
 use Rattle.numerals.proofs.Signs.{nat_abs_neg}
 use Rattle.numerals.proofs.RoundTrip.{spelled_front, spelled_length, whole_trip}
 use Rattle.columns.proofs.ColumnLaws.{Column}
 use Rattle.positions.specs.Positions.{whole_there, arc_seconds, arc_good, arc_of, position_good, position_of, position_fits, spell_arc, spell_position}
 use Rattle.positions.specs.declared.Position.{Position}
+use Rattle.std.specs.Prelude.{Some, Ok}
 
 -- hours of arc have sixty minutes of sixty seconds
 seconds_again : (n : ℕ) → 3600 * (n / 3600) + 60 * (n / 60 % 60) + n % 60 ≡ n
@@ -93,13 +93,13 @@ record Half (d degrees : ℕ) (plus minus : Char) (letters : String) : Type 0 wh
 module _ (d degrees : ℕ) (plus minus : Char) (letters : String) (h : Half d degrees plus minus letters) where
   -- the seconds in all are those that were spelled
   module _ (z : ℤ) (l : nat_abs z ≤ 3600 * degrees) where
-    degrees_say : whole_of (take d (spell_arc d plus minus z)) ≡ whole.Filled (nat_abs z / 3600)
+    degrees_say : whole_of (take d (spell_arc d plus minus z)) ≡ Ok (Some (nat_abs z / 3600))
     degrees_say = ap whole_of (degrees_at d plus minus z) ∙ whole_trip d (nat_abs z / 3600) h.one h.few (omega (arith, h.room))
 
-    minutes_say : whole_of (take 2 (drop (d + 1) (spell_arc d plus minus z))) ≡ whole.Filled (nat_abs z / 60 % 60)
+    minutes_say : whole_of (take 2 (drop (d + 1) (spell_arc d plus minus z))) ≡ Ok (Some (nat_abs z / 60 % 60))
     minutes_say = ap whole_of (minutes_at d plus minus z) ∙ whole_trip 2 (nat_abs z / 60 % 60) (omega arith) (omega arith) (omega arith)
 
-    seconds_say : whole_of (take 2 (drop (d + 3) (spell_arc d plus minus z))) ≡ whole.Filled (nat_abs z % 60)
+    seconds_say : whole_of (take 2 (drop (d + 3) (spell_arc d plus minus z))) ≡ Ok (Some (nat_abs z % 60))
     seconds_say = ap whole_of (seconds_at d plus minus z) ∙ whole_trip 2 (nat_abs z % 60) (omega arith) (omega arith) (omega arith)
 
     arc_seconds_lem : arc_seconds d (spell_arc d plus minus z) ≡ nat_abs z

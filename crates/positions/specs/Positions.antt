@@ -1,5 +1,5 @@
 -- Document 01: 4C, degrees (3), E or W, minutes (2), seconds (2), degrees (2), N or S, minutes, seconds; each number a whole number.
-use Rattle.std.specs.Prelude.{ℕ, ◌+◌, ◌*◌, ◌/◌, ◌%◌, Bool, false, cond, ◌&&◌, ◌||◌, List, [], ◌∷◌, ◌++◌, get_or, take, drop, leb, ℤ, nat_abs}
+use Rattle.std.specs.Prelude.{ℕ, ◌+◌, ◌*◌, ◌/◌, ◌%◌, Bool, false, cond, ◌&&◌, ◌||◌, List, [], ◌∷◌, ◌++◌, get_or, take, drop, leb, ℤ, nat_abs, Result, Ok, Err}
 use Prim.Native.Char.{Char, code}
 use Prim.Native.String.{String}
 use Rattle.columns.specs.Sets.{is, among}
@@ -9,8 +9,6 @@ use Rattle.flaws.specs.declared.Flaw.{Flaw}
 use Rattle.flaws.specs.declared.Flaw.TheVariants as flaw
 use Rattle.numerals.specs.Numbers.{whole_of, whole_filled, admits_whole, amount, with_sign, is_negative, spell_digits}
 use Rattle.positions.specs.declared.Position.{Position}
-use Rattle.positions.specs.declared.Located.{Located}
-use Rattle.positions.specs.declared.Located.TheVariants as located
 
 -- Whole numbers from column i on, w columns wide.
 abbrev pub whole_at : ℕ → ℕ → List ℕ → ℕ
@@ -64,8 +62,8 @@ unfoldable pub unread_position : List ℕ → Flaw
 unread_position p = cond (position_reads p) flaw.Range (unread admits_position p)
 
 -- All in one answer.
-unfoldable pub located_of : List ℕ → Located
-located_of p = cond (position_good p) (located.Filled (position_of p)) (located.Bad (unread_position p))
+unfoldable pub located_of : List ℕ → Result Position Flaw
+located_of p = cond (position_good p) (Ok (position_of p)) (Err (unread_position p))
 
 -- The rule on a typed value.
 unfoldable pub position_fits : Position → Bool

@@ -17,13 +17,6 @@ pub struct Position {
     pub north: i64,
 }
 
-// A position, read from its columns, or what is wrong with them.
-#[derive(Clone, Copy)]
-pub enum Located {
-    Bad(Flaw),
-    Filled(Position),
-}
-
 // What is wrong with two halves that are no place, and with the columns that they stand in.
 fn unread_position(east: Arc, north: Arc, s: &[u8]) -> Flaw
     ensures { result ≡ cond ((whole_filled east.degrees && (eqb east.letter 69 || (eqb east.letter 87 || false)) && whole_filled east.minutes && whole_filled east.seconds)
@@ -39,22 +32,22 @@ fn unread_position(east: Arc, north: Arc, s: &[u8]) -> Flaw
     Flaw::Range
 }
 
-// A position: east or west in eight columns, north or south in seven.
-pub fn read_position(s: &[u8]) -> Located
+// A position: east or west in eight columns, north or south in seven; or what is wrong with the columns.
+pub fn read_position(s: &[u8]) -> Result<Position, Flaw>
     ensures { result ≡ located_of s.now }
 {
     if s.len() != 15 {
-        return Located::Bad(unread_of(b"0123456789EWNS ", s));
+        return Err(unread_of(b"0123456789EWNS ", s));
     }
     let east = arc_in(&s[0..8], 3);
     let north = arc_in(&s[8..15], 2);
     if !is_arc(east, b'E', b'W', 180) {
-        return Located::Bad(unread_position(east, north, s));
+        return Err(unread_position(east, north, s));
     }
     if !is_arc(north, b'N', b'S', 90) {
-        return Located::Bad(unread_position(east, north, s));
+        return Err(unread_position(east, north, s));
     }
-    Located::Filled(Position {
+    Ok(Position {
         east: arc_seconds(east, b'W'),
         north: arc_seconds(north, b'S'),
     })
@@ -65,8 +58,5 @@ pub fn position_in(s: &[u8]) -> Position
     requires { position_good s.now ≡ true }
     ensures { result ≡ position_of s.now }
 {
-    match read_position(s) {
-        Located::Bad(_) => Position { east: 0, north: 0 },
-        Located::Filled(p) => p,
-    }
+    read_position(s).unwrap()
 }

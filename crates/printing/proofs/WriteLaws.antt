@@ -1,4 +1,5 @@
 -- What is printed of a file from what was put in: its length as it was asked, and a text that is put in first.
+use Rattle.basics.specs.Outcomes.{Outcome}
 use mathlib.Core.Path.{◌≡◌, sym, ap, ◌∙◌}
 use mathlib.Core.Bool.{Bool, true, false, not}
 use mathlib.Core.List.{List}
@@ -7,22 +8,11 @@ use native.Mathlib.Nat.{zero-add}
 use native.Mathlib.Omega.{arith}
 use lib.ListN.{length, drop, length-append}
 use borrow.Author.Tests.{not-true, not-false}
-use Rattle.basics.specs.declared.Outcome.{Outcome}
 use Rattle.basics.proofs.RefusalLaws.{done}
 use Rattle.files.specs.Files.{stations, most_stations}
 use Rattle.files.specs.Calls.{length_outcome}
 use Rattle.files.proofs.LengthLaws.{length_passed, whole_records}
 use Rattle.printing.specs.Promises.{Appended, Written}
-
--- The file's length, as it was asked and answered.
-module _ (file : List ℕ) {o : Outcome} {b : Bool} (asked : o ≡ length_outcome file) (answer : b ≡ done o) where
-  -- It was refused,
-  pub turned_away : not b ≡ true → done (length_outcome file) ≡ false
-  turned_away e = ap (λ (o : Outcome). done o) (sym asked) ∙ sym answer ∙ not-true b e
-
-  -- or taken.
-  pub taken : not b ≡ false → done (length_outcome file) ≡ true
-  taken e = ap (λ (o : Outcome). done o) (sym asked) ∙ sym answer ∙ not-false b e
 
 -- A file whose length is right has at most 298 stations.
 pub few : (file : List ℕ) {n : ℕ} → done (length_outcome file) ≡ true → n ≡ stations file → n ≤ most_stations

@@ -1,6 +1,6 @@
 -- What the calls on a station's record promise, as relations between what they are given and their answer.
+use Rattle.basics.specs.Outcomes.{Outcome}
 use Rattle.std.specs.Prelude.{ℕ, ◌≡◌, List}
-use Rattle.basics.specs.declared.Outcome.{Outcome}
 use Rattle.station.specs.Calls.{read_outcome, read_station}
 use Rattle.reading.specs.declared.typed.ReadStation.{ReadStation}
 

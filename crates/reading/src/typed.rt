@@ -6,8 +6,7 @@ ghost use Rattle.station.specs.Rules.{field_rules};
 ghost use Rattle.station.specs.Codes.{value_of};
 ghost use Rattle.reading.specs.Promises.{StationRead};
 
-use basics::Outcome;
-use basics::outcomes::is_done;
+use basics::Refusal;
 use empties::empty_station;
 use group_reading::{antenna_in, channel_in, coordination_in, emission_in, site_in};
 use judging::check_station;
@@ -16,7 +15,7 @@ use station::Station;
 // How reading ended, and the station: the empty one on a refusal.
 #[derive(Clone, Copy)]
 pub struct ReadStation {
-    pub outcome: Outcome,
+    pub outcome: Result<(), Refusal>,
     pub station: Station,
 }
 
@@ -39,7 +38,7 @@ pub fn read_station(rec: &[u8]) -> ReadStation
     ensures { StationRead rec.now result }
 {
     let outcome = check_station(rec);
-    if is_done(outcome) {
+    if outcome.is_ok() {
         return ReadStation {
             outcome,
             station: station_in(rec),

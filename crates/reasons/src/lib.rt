@@ -2,27 +2,16 @@
 #![tactic(auto)]
 
 ghost use Rattle.std.specs.Prelude.{◌≡◌, ◌++◌, ◌+◌, ◌≤◌, length, take, drop};
-ghost use Rattle.columns.specs.Texts.{bytes, trimmed};
+ghost use Rattle.columns.specs.Texts.{bytes};
 ghost use Rattle.printing.specs.Promises.{Appended};
 ghost use Rattle.wording.specs.Words.{flaw_words, name_at};
 ghost use Rattle.reasons.specs.Reasons.{columns_text, field_text, reason_text};
 
-use columns::texts::trimmed_length;
 use flaws::Flaw;
 use places::station_place;
 use printing::pieces::{put_labelled, put_text};
 use station_flaws::record_flaw;
-use wording::{field_name, flaw_words};
-
-// Puts in a text without the spaces behind it, and answers where it ends.
-fn put_trimmed(out: &mut [u8], start: usize, text: &[u8]) -> usize
-    requires { start + length text.now ≤ length out.old }
-    ensures appended { Appended out.old start (trimmed text.now) out.new result }
-    ensures upper_bound { result ≤ start + length text.now }
-{
-    let n = trimmed_length(text);
-    put_text(out, start, &text[..n])
-}
+use wording::{field_text, flaw_text};
 
 // Puts in the name of field number k, and answers where it ends.
 fn put_name(out: &mut [u8], start: usize, k: u8) -> usize
@@ -30,8 +19,7 @@ fn put_name(out: &mut [u8], start: usize, k: u8) -> usize
     ensures appended { Appended out.old start (name_at k) out.new result }
     ensures upper_bound { result ≤ start + 10 }
 {
-    let name = field_name(k as usize);
-    put_trimmed(out, start, &name)
+    put_text(out, start, field_text(k as usize).as_bytes())
 }
 
 // Puts in a field's columns, and answers where it ends.
@@ -81,8 +69,7 @@ fn put_flaw(out: &mut [u8], start: usize, flaw: Flaw) -> usize
     ensures appended { Appended out.old start (flaw_words flaw) out.new result }
     ensures upper_bound { result ≤ start + 18 }
 {
-    let words = flaw_words(flaw);
-    put_trimmed(out, start, &words)
+    put_text(out, start, flaw_text(flaw).as_bytes())
 }
 
 // Puts in what is wrong with a record by one of its codes, and answers where it ends.

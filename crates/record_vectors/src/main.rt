@@ -2,7 +2,8 @@
 // the refusal's number, and with 9 its code.
 #![tactic(auto)]
 
-use basics::Outcome;
+use basics::Refusal;
+use vector_lines::answer_vectors;
 
 // Writes to standard output.
 fn put(s: &[u8]) {
@@ -10,11 +11,11 @@ fn put(s: &[u8]) {
 }
 
 // Prints how a call ended: 0, 6, or 9 and its code. No other refusal belongs to reading.
-fn put_outcome(o: Outcome) {
+fn put_outcome(o: Result<(), Refusal>) {
     match o {
-        Outcome::Done => put(b" 0\n"),
-        Outcome::RecordLength => put(b" 6\n"),
-        Outcome::RuleBroken(code) => put_code(code),
+        Ok(()) => put(b" 0\n"),
+        Err(Refusal::RecordLength) => put(b" 6\n"),
+        Err(Refusal::RuleBroken(code)) => put_code(code),
         _ => put(b" other\n"),
     }
 }
@@ -45,30 +46,9 @@ fn answer(kind: u8, s: &[u8]) {
     }
 }
 
-// All vectors, and how many there were.
-fn run(s: &[u8]) {
-    let mut at: usize = 0;
-    let mut count: u64 = 0;
-    while at < s.len() {
-        let rest = &s[at..];
-        let e = vector_lines::bytes_end(rest);
-        if e < 5 {
-            put(b"cut short\n");
-            return;
-        }
-        if e >= rest.len() {
-            return;
-        }
-        answer(rest[0], &rest[5..e]);
-        at += e + 1;
-        count += 1;
-    }
-    io::print_decimal(1, count);
-    put(b" vectors\n");
-}
-
+// Answers all vectors, and says how many there were.
 fn main() {
     let mut space = io::large_buffer();
     let n = io::read_full(0, &mut space);
-    run(&space[..n]);
+    answer_vectors(&space[..n], answer);
 }

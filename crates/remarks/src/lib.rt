@@ -25,12 +25,9 @@ fn is_cell(s: &[u8]) -> bool
 {
     let mut all = true;
     let mut before = b' ';
-    let mut i = 0;
-    while i < s.len() {
-        let c = s[i];
-        all = all & (is_hex(c) | ((c == b' ') & (before == b' ')));
-        before = c;
-        i += 1;
+    for c in s {
+        all = all & (is_hex(*c) | ((*c == b' ') & (before == b' ')));
+        before = *c;
     }
     all
 }

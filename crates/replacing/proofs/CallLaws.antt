@@ -1,4 +1,7 @@
 -- How replacing ends: what no refusal tells, and what it leaves.
+use Rattle.basics.specs.declared.Refusal.{Refusal}
+use Rattle.std.specs.Result.{result_unwrap_or}
+use Rattle.std.specs.Prelude.{Ok, Result}
 use mathlib.Core.Path.{◌≡◌, refl, sym, ap, ◌∙◌}
 use mathlib.Core.Bool.{true, false}
 use mathlib.Core.List.{List, [], ◌∷◌, ◌++◌}
@@ -6,9 +9,7 @@ use Prim.Native.Nat.{ℕ, ◌+◌, ◌*◌, ◌≤◌}
 use native.Mathlib.Omega.{arith}
 use lib.ListN.{length}
 use borrow.Author.Tests.{eqb-true, ltb-false, not-false}
-use Rattle.basics.specs.Outcomes.{refusal, if_done, Test, first_refusal, record_test}
-use Rattle.basics.specs.declared.Outcome.{Outcome}
-use Rattle.basics.specs.declared.Outcome.TheVariants as outcome
+use Rattle.basics.specs.Outcomes.{refusal, if_done, Test, first_refusal, record_test, Outcome, ends}
 use Rattle.basics.proofs.RefusalLaws.{done, done_is, none_applies, asked-on}
 use Rattle.files.specs.Files.{stations, with_record}
 use Rattle.files.specs.Calls.{number_test}
@@ -58,15 +59,15 @@ module _ (file sheet : List ℕ) (k : ℕ) (r : List ℕ) where
       }
 
   -- A replacement that is refused leaves every byte as it was,
-  pub replace_refused : {o : Outcome} → o ≡ replace_outcome file sheet k r → done o ≡ false
-      → RecordReplaced file sheet k r (record { outcome = o; rows = 0 }) file sheet × StillJudged file sheet file sheet
+  pub replace_refused : (answer : Result ℕ Refusal) → ends answer ≡ replace_outcome file sheet k r → result_unwrap_or answer 0 ≡ 0 → done (replace_outcome file sheet k r) ≡ false
+      → RecordReplaced file sheet k r answer file sheet × StillJudged file sheet file sheet
   unfolding replaced_rows replaced_file replaced_sheet if_done
-  replace_refused e f = ((e, sym (rw (← e, f)), sym (rw (← e, f)), sym (rw (← e, f))), λ q. q)
+  replace_refused answer e v f = ((e, v ∙ sym (rw f), sym (rw f), sym (rw f)), λ q. q)
 
   -- and one that is done the new record and the mended sheet.
   pub replace_done : {w : ℕ} {file' sheet' : List ℕ} → done (replace_outcome file sheet k r) ≡ true
       → w ≡ rows_written (stations file) file k r → file' ≡ with_record file k r → sheet' ≡ mended_sheet (stations file) file sheet k r
-      → RecordReplaced file sheet k r (record { outcome = outcome.Done; rows = w }) file' sheet' × StillJudged file sheet file' sheet'
+      → RecordReplaced file sheet k r (Ok w) file' sheet' × StillJudged file sheet file' sheet'
   unfolding replaced_rows replaced_file replaced_sheet if_done
   replace_done t ew ef es =
       let may : Allowed file sheet k r = allowed t in

@@ -5,8 +5,7 @@ use mathlib.Core.List.{List, [], ◌∷◌, ◌++◌}
 use Prim.Native.Nat.{ℕ}
 use lib.ListN.{length}
 use borrow.Author.Tests.{eq-eqb}
-use Rattle.basics.specs.Outcomes.{refusal, if_done, first_refusal, record_test}
-use Rattle.basics.specs.declared.Outcome.{Outcome}
+use Rattle.basics.specs.Outcomes.{refusal, if_done, first_refusal, record_test, Outcome}
 use Rattle.files.specs.Files.{stations, record_at, with_record, too_long, not_records}
 use Rattle.basics.proofs.RefusalLaws.{done}
 use Rattle.files.specs.Calls.{file_tests, number_test}

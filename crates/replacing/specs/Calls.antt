@@ -1,8 +1,7 @@
 -- Document 01, "Refusal numbers": how replacing ends, and what it hands back and leaves.
-use Rattle.std.specs.Prelude.{ℕ, not, List, [], ◌∷◌, ◌++◌}
-use Rattle.basics.specs.Outcomes.{if_done, Test, when, first_refusal, record_test}
-use Rattle.basics.specs.declared.Outcome.{Outcome}
-use Rattle.basics.specs.declared.Outcome.TheVariants as outcome
+use Rattle.std.specs.Prelude.{ℕ, not, List, [], ◌∷◌, ◌++◌, Err}
+use Rattle.basics.specs.Outcomes.{if_done, Test, when, first_refusal, record_test, Outcome}
+use Rattle.basics.specs.declared.Refusal.TheVariants as why
 use Rattle.files.specs.Files.{stations, with_record}
 use Rattle.files.specs.Calls.{number_test}
 use Rattle.forms.specs.OwnForm.{trailer_fits}
@@ -11,7 +10,7 @@ use Rattle.mending.specs.Replacing.{mended_sheet, rows_written}
 
 -- Replacing asks 4 to 6 after what judging asks. A record of 219 bytes that breaks rules is put in.
 abbrev pub trailer_test : List ℕ → List ℕ → Test
-trailer_test file sheet = when (not (trailer_fits sheet (stations file))) outcome.SheetTrailer
+trailer_test file sheet = when (not (trailer_fits sheet (stations file))) (Err why.SheetTrailer)
 
 unfoldable pub replace_outcome : List ℕ → List ℕ → ℕ → List ℕ → Outcome
 replace_outcome file sheet k r = first_refusal (judge_tests file sheet ++ (trailer_test file sheet ∷ number_test file k ∷ record_test r ∷ []))

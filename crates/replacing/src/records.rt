@@ -1,14 +1,13 @@
 // Replacing a record, and mending the sheet.
 ghost use Rattle.std.specs.Prelude.{◌≡◌, ◌+◌, ◌*◌, ◌≤◌, length};
-ghost use Rattle.files.specs.Files.{with_record};
+ghost use Rattle.files.specs.Files.{HasRecord, with_record};
 ghost use Rattle.mending.specs.Replacing.{mended_sheet, rows_written};
 ghost use Rattle.replacing.specs.Calls.{replace_outcome};
 ghost use Rattle.sheet.specs.Promises.{Sized};
 ghost use Rattle.replacing.specs.Promises.{RecordReplaced, StillJudged};
 ghost use Rattle.basics.specs.Fields.{record_length};
 
-use basics::Outcome;
-use basics::outcomes::is_done;
+use basics::Refusal;
 use files::lengths::{RECORD_LENGTH, stations_in};
 use forms::readers::head_code;
 use header_judging::filed_header_code;
@@ -17,16 +16,9 @@ use sheet_judging::judge_outcome;
 use stations::site;
 use trailers::{fits_trailer, put_trailer};
 
-// How a replacement ended, and how many rows it wrote.
-#[derive(Clone, Copy)]
-pub struct Replaced {
-    pub outcome: Outcome,
-    pub rows: usize,
-}
-
 // Puts a record in the place of record k.
 fn put_record(file: &mut [u8], k: usize, rec: &[u8])
-    requires { (record_length * k + record_length ≤ length file.old) × (length rec.now ≡ record_length) }
+    requires { HasRecord file.old k × (length rec.now ≡ record_length) }
     ensures { file.new ≡ with_record file.old k rec.now }
 {
     let start = RECORD_LENGTH * k;
@@ -64,46 +56,33 @@ fn replace_station(file: &mut [u8], sheet: &mut [u8], n: usize, k: usize, rec: &
 }
 
 // How replacing ends: 1 to 6, lowest first, or done.
-fn replace_outcome(file: &[u8], sheet: &[u8], k: usize, rec: &[u8]) -> Outcome
+fn replace_outcome(file: &[u8], sheet: &[u8], k: usize, rec: &[u8]) -> Result<(), Refusal>
     ensures { result ≡ replace_outcome file.now sheet.now k rec.now }
 {
-    let judging = judge_outcome(file, sheet);
-    if !is_done(judging) {
-        return judging;
-    }
+    judge_outcome(file, sheet)?;
     let n = stations_in(file);
     if !fits_trailer(sheet, n) {
-        return Outcome::SheetTrailer;
+        return Err(Refusal::SheetTrailer);
     }
     if k > n {
-        return Outcome::NoSuchRecord;
+        return Err(Refusal::NoSuchRecord);
     }
     if rec.len() != RECORD_LENGTH {
-        return Outcome::RecordLength;
+        return Err(Refusal::RecordLength);
     }
-    Outcome::Done
+    Ok(())
 }
 
-// Replaces record k, the header being 0, and mends the sheet; a refusal leaves every byte as it was.
-pub fn replace(file: &mut [u8], sheet: &mut [u8], k: usize, rec: &[u8]) -> Replaced
+// Replaces record k, the header being 0, mends the sheet, and answers how many rows it wrote; a refusal leaves every byte as it was.
+pub fn replace(file: &mut [u8], sheet: &mut [u8], k: usize, rec: &[u8]) -> Result<usize, Refusal>
     ensures record_replaced { RecordReplaced file.old sheet.old k rec.now result file.new sheet.new }
     ensures still_judged { StillJudged file.old sheet.old file.new sheet.new }
 {
-    let outcome = replace_outcome(file, sheet, k, rec);
-    if !is_done(outcome) {
-        return Replaced { outcome, rows: 0 };
-    }
+    replace_outcome(file, sheet, k, rec)?;
     let n = stations_in(file);
     if k == 0 {
         replace_header(file, sheet, n, rec);
-        return Replaced {
-            outcome: Outcome::Done,
-            rows: 0,
-        };
+        return Ok(0);
     }
-    let rows = replace_station(file, sheet, n, k, rec);
-    Replaced {
-        outcome: Outcome::Done,
-        rows,
-    }
+    Ok(replace_station(file, sheet, n, k, rec))
 }

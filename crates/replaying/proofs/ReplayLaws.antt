@@ -4,8 +4,7 @@ use mathlib.Core.Bool.{true, false}
 use mathlib.Core.List.{List}
 use Prim.Native.Nat.{ℕ}
 use lib.ListN.{length}
-use Rattle.basics.specs.Outcomes.{if_done, first_refusal}
-use Rattle.basics.specs.declared.Outcome.{Outcome}
+use Rattle.basics.specs.Outcomes.{if_done, first_refusal, Outcome}
 use Rattle.basics.proofs.RefusalLaws.{done, done_is, if_done_lem}
 use Rattle.files.specs.Files.{stations}
 use Rattle.forms.specs.Counting.{count}

@@ -9,8 +9,7 @@ ghost use Rattle.traces.specs.Traces.{save_length, saved_number, saved_record, s
 ghost use Rattle.trace_runs.specs.Replaying.{accepted, above_all, day_after};
 ghost use Rattle.replaying.specs.Promises.{TraceReplayed};
 
-use basics::Outcome;
-use basics::outcomes::is_done;
+use basics::Refusal;
 use numerals::amount_in;
 use replacing::records::replace;
 use sheet_judging::judge;
@@ -19,7 +18,7 @@ use traces::{SAVE_LENGTH, SAVED_DIGITS, can_run, save_from};
 // How running a trace ended: the saves that were accepted and refused, and the save that it stopped at, counted from 1, or 0.
 #[derive(Clone, Copy)]
 pub struct Replayed {
-    pub outcome: Outcome,
+    pub outcome: Result<(), Refusal>,
     pub accepted: usize,
     pub refused: usize,
     pub stopped: usize,
@@ -35,8 +34,7 @@ fn run_save(file: &mut [u8], sheet: &mut [u8], save: &[u8]) -> usize
 {
     let number = amount_in(&save[..SAVED_DIGITS]);
     let replaced = replace(file, sheet, number as usize, &save[SAVED_DIGITS..]);
-    let outcome = replaced.outcome;
-    if is_done(outcome) {
+    if replaced.is_ok() {
         return 1;
     }
     0
@@ -52,27 +50,24 @@ fn run_saves(file: &mut [u8], sheet: &mut [u8], trace: &[u8]) -> Replayed
     ensures file_after { file.new ≡ (day_after file.old trace.now).0 }
     ensures sheet_after { sheet.new ≡ (day_after file.old trace.now).1 }
 {
-    let mut at = 0;
-    let mut ran = 0;
+    let saves = trace.len().div_ceil(SAVE_LENGTH);
     let mut taken = 0;
-    while at < trace.len() {
-        let save = save_from(trace, at);
+    for ran in 0..saves {
+        let save = save_from(trace, SAVE_LENGTH * ran);
         if !can_run(save) {
             return Replayed {
-                outcome: Outcome::Done,
+                outcome: Ok(()),
                 accepted: taken,
                 refused: ran - taken,
                 stopped: ran + 1,
             };
         }
-        at += SAVE_LENGTH;
-        ran += 1;
         taken += run_save(file, sheet, save);
     }
     Replayed {
-        outcome: Outcome::Done,
+        outcome: Ok(()),
         accepted: taken,
-        refused: ran - taken,
+        refused: saves - taken,
         stopped: 0,
     }
 }
@@ -82,7 +77,7 @@ pub fn replay(file: &mut [u8], sheet: &mut [u8], trace: &[u8]) -> Replayed
     ensures { TraceReplayed file.old sheet.old trace.now result file.new sheet.new }
 {
     let outcome = judge(file, sheet);
-    if !is_done(outcome) {
+    if outcome.is_err() {
         return Replayed {
             outcome,
             accepted: 0,

@@ -36,10 +36,8 @@ pub fn put_rows(out: &mut [u8], start: usize, sheet: &[u8], n: usize) -> usize
     ensures upper_bound { result ≤ start + 40 * n }
 {
     let mut end = start;
-    let mut i = 0;
-    while i < n {
+    for i in 0..n {
         end = put_row(out, end, sheet, i);
-        i += 1;
     }
     end
 }

@@ -1,4 +1,5 @@
 -- The sheet that is judged for a report: it is the file's, and its trailer has the number of its bad rows.
+use Rattle.std.specs.Prelude.{Ok, Err}
 use mathlib.Core.Path.{◌≡◌, ap, ◌∙◌}
 use mathlib.Core.Bool.{not, true}
 use mathlib.Core.List.{List, [], ◌∷◌}
@@ -7,7 +8,7 @@ use lib.ListN.{length}
 use borrow.Author.Tests.{eq-eqb}
 use Rattle.columns.specs.Texts.{sized}
 use Rattle.basics.specs.Outcomes.{refusal, when}
-use Rattle.basics.specs.declared.Outcome.TheVariants as outcome
+use Rattle.basics.specs.declared.Refusal.TheVariants as why
 use Rattle.basics.proofs.RefusalLaws.{done, passes, none_left, asked-on}
 use Rattle.files.specs.Files.{stations}
 use Rattle.files.specs.Calls.{file_tests, length_outcome}
@@ -22,11 +23,11 @@ use Rattle.sheet.proofs.SheetLaws.{judged_found}
 use Rattle.reports.specs.Reports.{sheet_lines, sheet_report}
 
 -- Judging a file whose length is right into a sheet that fits it is done.
-judged_so : (file sheet : List ℕ) → done (length_outcome file) ≡ true → length sheet ≡ sheet_length (stations file) → judge_outcome file sheet ≡ outcome.Done
+judged_so : (file sheet : List ℕ) → done (length_outcome file) ≡ true → length sheet ≡ sheet_length (stations file) → judge_outcome file sheet ≡ Ok tt
 unfolding judge_outcome
 judged_so file sheet t l =
-    let sheetTests = when (not (sized (sheet_length (stations file)) sheet)) outcome.SheetLength ∷ [] in
-    asked-on (file_tests file) sheetTests (length_passed file t) ∙ passes outcome.SheetLength [] (rw (eq-eqb (length sheet) (sheet_length (stations file)) l)) ∙ none_left
+    let sheetTests = when (not (sized (sheet_length (stations file)) sheet)) (Err why.SheetLength) ∷ [] in
+    asked-on (file_tests file) sheetTests (length_passed file t) ∙ passes (Err why.SheetLength) [] (rw (eq-eqb (length sheet) (sheet_length (stations file)) l)) ∙ none_left
 
 -- A file whose length is right, and a sheet that fits it, have the sizes that judging asks for.
 pub sized_so : (file sheet : List ℕ) (n : ℕ) → done (length_outcome file) ≡ true → n ≡ stations file → length sheet ≡ sheet_length n → Sized file sheet n

@@ -11,7 +11,7 @@ ghost use Rattle.files.specs.Calls.{length_outcome};
 ghost use Rattle.printing.specs.Promises.{Appended};
 ghost use Rattle.reports.specs.Promises.{ReportWritten};
 
-use basics::outcomes::{is_done, refusal_number};
+use basics::outcomes::refusal_number;
 use files::lengths::{check_file, stations_in};
 use forms::form::{ROW_WIDTH, TRAILER_LENGTH};
 use forms::readers::{found, head_code};
@@ -63,7 +63,7 @@ pub fn write_report(file: &[u8], out: &mut [u8; 12288]) -> usize
     ensures { ReportWritten file.now out.old result out.new }
 {
     let outcome = check_file(file);
-    if !is_done(outcome) {
+    if outcome.is_err() {
         return put_refused(out, 0, refusal_number(outcome));
     }
     put_file(out, file)

@@ -1,4 +1,5 @@
 -- A record read and then written in the one spelling: the calls together end as respelling does.
+use Rattle.std.specs.Prelude.{Ok, Err}
 use mathlib.Core.Path.{◌≡◌, refl, sym, ap, ◌∙◌}
 use mathlib.Core.Bool.{true, false}
 use mathlib.Core.List.{List, [], ◌∷◌}
@@ -6,9 +7,8 @@ use Prim.Native.Nat.{ℕ}
 use lib.ListN.{length}
 use borrow.Author.Tests.{eq-eqb, eqb-true, not-false}
 use Rattle.basics.specs.Fields.{record_length}
-use Rattle.basics.specs.Outcomes.{refusal, if_done, Test, first_refusal, record_test, buffer_test, rule_test}
-use Rattle.basics.specs.declared.Outcome.{Outcome}
-use Rattle.basics.specs.declared.Outcome.TheVariants as outcome
+use Rattle.basics.specs.Outcomes.{refusal, if_done, Test, first_refusal, record_test, buffer_test, rule_test, Outcome}
+use Rattle.basics.specs.declared.Refusal.TheVariants as why
 use Rattle.basics.proofs.RefusalLaws.{done, if_done_lem, if_refused, passes, none_left, NoneApplies, none_applies, asked-on, ended-there}
 use Rattle.basics.proofs.CallLaws.{ending, accepted}
 use Rattle.respelling.specs.Respelling.{respelling}
@@ -22,7 +22,7 @@ unfolding refusal
 lengths_passed r out d = none_applies (length_tests r out) refl d
 
 -- A call that ends without a broken rule, on bytes of the right length, is done.
-pub taken : (s : List ℕ) (k : ℕ) (short : Outcome) → length s ≡ record_length → k ≡ 0 → ending s k short ≡ outcome.Done
+pub taken : (s : List ℕ) (k : ℕ) (short : Outcome) → length s ≡ record_length → k ≡ 0 → ending s k short ≡ Ok tt
 unfolding first_refusal
 taken s k short l z = rw (eq-eqb (length s) record_length l, eq-eqb k 0 z)
 
@@ -46,36 +46,36 @@ module _ {A : Type 0} (k : ℕ) (v empty : A) (typed : A → ℕ) (spell : A →
     rule_left = asked-on (length_tests r out) (rule_test k ∷ []) none
 
     -- a record that reading refuses ends it,
-    pub reading_refused : {o : Outcome} → o ≡ ending r k outcome.RecordLength → done o ≡ false → Ends o out
-    reading_refused e f = left (e ∙ passes outcome.RecordLength (rule_test k ∷ []) none.0 ∙ sym rule_left) f
+    pub reading_refused : {o : Outcome} → o ≡ ending r k (Err why.RecordLength) → done o ≡ false → Ends o out
+    reading_refused e f = left (e ∙ passes (Err why.RecordLength) (rule_test k ∷ []) none.0 ∙ sym rule_left) f
 
     -- and any other has its length and breaks no rule:
-    module _ {o : Outcome} (e : o ≡ ending r k outcome.RecordLength) (d : done o ≡ true) where
-      yes : done (ending r k outcome.RecordLength) ≡ true
+    module _ {o : Outcome} (e : o ≡ ending r k (Err why.RecordLength)) (d : done o ≡ true) where
+      yes : done (ending r k (Err why.RecordLength)) ≡ true
       yes = ap done (sym e) ∙ d
 
       pub all_fit : (length r ≡ record_length) × (length out ≡ record_length) × (k ≡ 0)
       unfolding refusal
       all_fit =
-          let all = accepted r k outcome.RecordLength refl yes in
+          let all = accepted r k (Err why.RecordLength) refl yes in
           (all.0, eqb-true (length out) record_length (not-false _ none.1.0), all.1)
 
-      done_all : respelling k r out ≡ outcome.Done
-      done_all = rule_left ∙ passes (outcome.RuleBroken k) [] (rw (eq-eqb k 0 all_fit.2)) ∙ none_left
+      done_all : respelling k r out ≡ Ok tt
+      done_all = rule_left ∙ passes (Err (why.RuleBroken k)) [] (rw (eq-eqb k 0 all_fit.2)) ∙ none_left
 
       -- the spelling of what it says ends it,
-      pub spelling_put : {after : List ℕ} → after ≡ spell v → Ends outcome.Done after
+      pub spelling_put : {after : List ℕ} → after ≡ spell v → Ends (Ok tt) after
       unfolding refusal
-      spelling_put ea = (sym done_all, ea ∙ sym (ap (λ (x : Outcome). if_done x (spell v) out) done_all ∙ if_done_lem outcome.Done (spell v) out refl))
+      spelling_put ea = (sym done_all, ea ∙ sym (ap (λ (x : Outcome). if_done x (spell v) out) done_all ∙ if_done_lem (Ok tt) (spell v) out refl))
 
       -- and what was read of it fits, and may be written
-      module _ {s : A} (es : s ≡ if_done (ending r k outcome.RecordLength) v empty) where
+      module _ {s : A} (es : s ≡ if_done (ending r k (Err why.RecordLength)) v empty) where
         own : s ≡ v
-        own = es ∙ if_done_lem (ending r k outcome.RecordLength) v empty yes
+        own = es ∙ if_done_lem (ending r k (Err why.RecordLength)) v empty yes
 
         pub may_write : (length out ≡ record_length) × (typed s ≡ 0)
         may_write = (all_fit.1, ap typed own ∙ fits all_fit.0 all_fit.2)
 
         -- by what does not judge it.
-        pub value_put : {after : List ℕ} → after ≡ spell s → Ends outcome.Done after
+        pub value_put : {after : List ℕ} → after ≡ spell s → Ends (Ok tt) after
         value_put ea = spelling_put (ea ∙ ap spell own)

@@ -1,8 +1,8 @@
 -- The promises of respelling leave one answer, and one content of the lent bytes.
+use Rattle.basics.specs.Outcomes.{Outcome}
 use mathlib.Core.Path.{◌≡◌, sym, ◌∙◌}
 use mathlib.Core.List.{List}
 use Prim.Native.Nat.{ℕ}
-use Rattle.basics.specs.declared.Outcome.{Outcome}
 use Rattle.respelling.specs.Promises.{StationRespelled, HeaderRespelled}
 
 -- An answer and what is left that both meet a promise are those that it names.

@@ -1,6 +1,6 @@
 -- What respelling promises, as relations between what it is given, its answer and what it leaves.
+use Rattle.basics.specs.Outcomes.{Outcome}
 use Rattle.std.specs.Prelude.{ℕ, ◌≡◌, List}
-use Rattle.basics.specs.declared.Outcome.{Outcome}
 use Rattle.respelling.specs.Respelling.{respell_outcome, respelled_station, respell_header_outcome, respelled_header}
 
 -- `respell_station` of a record into a buffer.

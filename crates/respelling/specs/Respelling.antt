@@ -1,7 +1,6 @@
 -- Document 01, "Refusal numbers", for a record that is written in its one spelling: how the calls end, and what they leave in the lent bytes.
 use Rattle.std.specs.Prelude.{ℕ, List, [], ◌∷◌}
-use Rattle.basics.specs.Outcomes.{if_done, first_refusal, record_test, buffer_test, rule_test}
-use Rattle.basics.specs.declared.Outcome.{Outcome}
+use Rattle.basics.specs.Outcomes.{if_done, first_refusal, record_test, buffer_test, rule_test, Outcome}
 use Rattle.station.specs.Spelling.{spell_station}
 use Rattle.station.specs.Codes.{value_of, station_code}
 use Rattle.header.specs.Spelling.{spell_header}

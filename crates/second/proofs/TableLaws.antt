@@ -1,4 +1,5 @@
 -- Two tables of numbers that say what the tables of specs/ say judge a record as those do.
+use Rattle.std.specs.Prelude.{Ok, Err}
 use mathlib.Core.Path.{◌≡◌, refl, sym, ap, ◌∙◌}
 use mathlib.Core.Bool.{Bool, true, false, cond, not}
 use mathlib.Core.List.{List, [], ◌∷◌, ◌++◌}
@@ -9,7 +10,7 @@ use lib.ListN.{length}
 use borrow.Author.Tests.{eq-eqb, eqb-true, eqb-false}
 use Rattle.basics.specs.Rules.{All, first_broken}
 use Rattle.basics.specs.Outcomes.{code_with, first_refusal}
-use Rattle.basics.specs.declared.Outcome.TheVariants as outcome
+use Rattle.basics.specs.declared.Refusal.TheVariants as why
 use Rattle.basics.proofs.RuleLaws.{all_hold, to_next, from_first}
 use Rattle.fields.specs.Table.{station_table}
 use Rattle.flaw_parts.specs.Parts.{flaws_from, flaw_with, flawless_all}
@@ -97,7 +98,7 @@ code_bound r = let h : station_code r ≤ 39 = first_bound 0 (field_rules (field
 read_code : (r : List ℕ) → length r ≡ 219 → code_with (read_outcome r) ≡ station_code r
 unfolding read_outcome first_refusal code_with
 read_code r e = rw (eq-eqb (length r) 219 e) (by (eqb (station_code r) 0) refl) where
-  by : (b : Bool) → eqb (station_code r) 0 ≡ b → code_with (cond (not b) (outcome.RuleBroken (station_code r)) outcome.Done) ≡ station_code r
+  by : (b : Bool) → eqb (station_code r) 0 ≡ b → code_with (cond (not b) (Err (why.RuleBroken (station_code r))) (Ok tt)) ≡ station_code r
   by true z = sym (eqb-true (station_code r) 0 z)
   by false z = refl
 

@@ -6,7 +6,7 @@ ghost use Rattle.station.specs.Codes.{station_code};
 ghost use Rattle.station_flaws.specs.Calls.{station_flaw};
 ghost use Rattle.station_flaws.specs.Promises.{StationExplained};
 
-use basics::Outcome;
+use basics::Refusal;
 use basics::outcomes::judged;
 use flaws::Flaw;
 use rule_tables::{entry_table, row_table};
@@ -29,12 +29,14 @@ pub fn explain_second(rec: &[u8]) -> Explained
 {
     if rec.len() != 219 {
         return Explained {
-            outcome: Outcome::RecordLength,
+            outcome: Err(Refusal::RecordLength),
             flaw: Flaw::None,
         };
     }
     let found = found_in(rec);
-    let flaw = found.flaw;
     let outcome = judged((found.code % 256) as u8);
-    Explained { outcome, flaw }
+    Explained {
+        outcome,
+        flaw: found.flaw,
+    }
 }

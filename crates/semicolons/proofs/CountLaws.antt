@@ -1,14 +1,14 @@
 -- What a count of bytes does where texts are joined, at the last byte and at a place of a list.
-use mathlib.Core.Path.{◌≡◌, sym, ap, ◌∙◌}
+use mathlib.Core.Path.{◌≡◌}
 use mathlib.Core.Bool.{Bool, true}
 use mathlib.Core.List.{List, [], ◌∷◌, ◌++◌}
-use Prim.Native.Nat.{ℕ, ◌+◌, ◌-◌, ◌≤◌, ◌<◌}
+use Prim.Native.Nat.{ℕ, ◌+◌, ◌≤◌, ◌<◌}
 use native.Mathlib.Omega.{arith}
 use native.Mathlib.Nat.{zero-add}
 use native.Mathlib.Numerals.{add-one}
 use lib.Dec.{eqb}
-use lib.ListN.{length, get_or, take, drop, drop_of_length-le, take-append-drop}
-use lib.Seq.{drop-cons, drop-drop}
+use lib.ListN.{length, get_or, drop, drop_of_length-le}
+use lib.Seq.{drop-cons}
 use borrow.Author.Tests.{eq-eqb, ne_eqb}
 use Rattle.columns.specs.Texts.{how_many}
 use Rattle.semicolons.specs.Lines.{last_byte}
@@ -19,13 +19,6 @@ pub how_many_append : (test : ℕ → Bool) (s t : List ℕ) → how_many test (
 unfolding how_many
 how_many_append test [] t = omega arith
 how_many_append test (c ∷ s) t = omega (arith, how_many_append test s t)
-
--- From i on they are those up to e and those from there on.
-pub count_part : (test : ℕ → Bool) (s : List ℕ) (i e : ℕ) → i ≤ e → how_many test (take (e - i) (drop i s)) + how_many test (drop e s) ≡ how_many test (drop i s)
-count_part test s i e h =
-    let there : i + (e - i) ≡ e = omega arith in
-    ap (λ (n : ℕ). how_many test (take (e - i) (drop i s)) + how_many test (drop n s)) (sym there) ∙ ap (λ (l : List ℕ). how_many test (take (e - i) (drop i s)) + how_many test l) (sym (drop-drop (e - i) i s))
-    ∙ sym (how_many_append test (take (e - i) (drop i s)) (drop (e - i) (drop i s))) ∙ ap (how_many test) (take-append-drop (e - i) (drop i s))
 
 -- A text whose last byte passes a test has one that does.
 pub ends_counted : (test : ℕ → Bool) (t : List ℕ) → 1 ≤ length t → test (last_byte t) ≡ true → 1 ≤ how_many test t

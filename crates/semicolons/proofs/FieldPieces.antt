@@ -15,8 +15,6 @@ use Rattle.columns.specs.Texts.{bytes, head, every, each, same, one_of}
 use Rattle.numerals.specs.Numbers.{spell_digits, spell_whole, spell_signed, is_negative}
 use Rattle.decimals.specs.Decimals.{spell_magnitude, spell_decimal, decimal_width}
 use Rattle.days.specs.Dates.{spell_date, spell_day}
-use Rattle.days.specs.declared.dates.Day.{Day}
-use Rattle.days.specs.declared.dates.Day.TheVariants as day
 use Rattle.columns.proofs.TextLaws.{and_split, and_both}
 use Rattle.numerals.proofs.RoundTrip.{spelled_length}
 use Rattle.decimals.proofs.DecimalTrip.{decimal-length}
@@ -25,16 +23,11 @@ use Rattle.formats.specs.Tenths.{spell_tenths}
 use Rattle.frequencies.specs.Frequencies.{spell_amount, spell_unit, unit_letter}
 use Rattle.distances.specs.Distances.{spell_radius, spell_ground, spell_height}
 use Rattle.positions.specs.Positions.{position_fits, spell_arc, spell_position}
-use Rattle.formats.specs.declared.Tenths.{Tenths}
-use Rattle.formats.specs.declared.Tenths.TheVariants as tenths
 use Rattle.frequencies.specs.declared.Hertz.{Hertz}
 use Rattle.frequencies.specs.declared.Hertz.TheVariants as hertz
 use Rattle.frequencies.specs.declared.Frequency.{Frequency}
-use Rattle.frequencies.specs.declared.Frequency.TheVariants as frequency
 use Rattle.distances.specs.declared.Kilometres.{Kilometres}
 use Rattle.distances.specs.declared.Metres.{Metres}
-use Rattle.distances.specs.declared.Height.{Height}
-use Rattle.distances.specs.declared.Height.TheVariants as height
 use Rattle.positions.specs.declared.Position.{Position}
 use Rattle.positions.proofs.PositionColumn.{position_column}
 use Rattle.semicolons.specs.declared.Side.{Side}
@@ -42,6 +35,8 @@ use Rattle.semicolons.specs.declared.Side.TheVariants as side
 use Rattle.semicolons.proofs.PadLaws.{spaces_stand, head_stands, one_stands}
 use Rattle.semicolons.proofs.LineLaws.{plain}
 use Rattle.semicolons.proofs.PieceLaws.{Piece, solid, refuses_marks, not_this, plain_byte, every_append, spaces-plain, solid-piece, spaced-piece, solid_digits}
+use Rattle.std.specs.Prelude.{Option, Some, None}
+use Rattle.days.specs.declared.dates.Date.{Date}
 
 -- blank
 pub spaces-piece : (s : Side) (w : ℕ) → Piece s w (replicate w 32)
@@ -126,16 +121,16 @@ decimal-piece a b sign z = by sign z (decimal-length a b sign z) where
   by true z n = unfold spell_decimal in signed_one (is_negative z) (spell_magnitude a b (nat_abs z)) (decimal_width a b true) (unfold spell_decimal in n) (magnitude_solid a b (nat_abs z))
   by false z n = solid-piece side.Left (decimal_width a b false) (spell_decimal a b false z) n (unfold spell_decimal in magnitude_solid a b (nat_abs z))
 
-pub tenths_piece : (a b : ℕ) (sign : Bool) (v : Tenths) → Piece side.Left (decimal_width a b sign) (spell_tenths a b sign v)
+pub tenths_piece : (a b : ℕ) (sign : Bool) (v : Option ℤ) → Piece side.Left (decimal_width a b sign) (spell_tenths a b sign v)
 unfolding spell_tenths
-tenths_piece a b sign tenths.Blank = spaces-piece side.Left (decimal_width a b sign)
-tenths_piece a b sign (tenths.Filled z) = decimal-piece a b sign z
+tenths_piece a b sign None = spaces-piece side.Left (decimal_width a b sign)
+tenths_piece a b sign (Some z) = decimal-piece a b sign z
 
 -- 1A and 1Y, and their units
-pub amount-piece : (v : Frequency) → Piece side.Left 11 (spell_amount v)
+pub amount-piece : (v : Option Frequency) → Piece side.Left 11 (spell_amount v)
 unfolding spell_amount
-amount-piece frequency.Blank = spaces-piece side.Left 11
-amount-piece (frequency.Filled n u) = decimal-piece 5 5 false (pos n)
+amount-piece None = spaces-piece side.Left 11
+amount-piece (Some f) = decimal-piece 5 5 false (pos f.amount)
 
 letter_solid : (u : Hertz) → every solid (unit_letter u ∷ []) ≡ true
 unfolding unit_letter every
@@ -143,10 +138,10 @@ letter_solid hertz.Kilo = refl
 letter_solid hertz.Mega = refl
 letter_solid hertz.Giga = refl
 
-pub unit_piece : (v : Frequency) → Piece side.Right 1 (spell_unit v)
+pub unit_piece : (v : Option Frequency) → Piece side.Right 1 (spell_unit v)
 unfolding spell_unit
-unit_piece frequency.Blank = spaces-piece side.Right 1
-unit_piece (frequency.Filled n u) = solid-piece side.Right 1 (unit_letter u ∷ []) refl (letter_solid u)
+unit_piece None = spaces-piece side.Right 1
+unit_piece (Some f) = solid-piece side.Right 1 (unit_letter f.unit ∷ []) refl (letter_solid f.unit)
 
 -- whole numbers
 whole-piece : (k v : ℕ) → Piece side.Left k (spell_whole k v)
@@ -165,16 +160,16 @@ unfolding spell_signed every
 signed-piece (pos n) = whole-piece 4 n
 signed-piece (negsuc n) = solid-piece side.Left 4 (45 ∷ spell_whole 3 (suc n)) (ap suc (spelled_length 3 (suc n) [])) (solid_digits 3 (suc n) [] refl)
 
-pub height_piece : (v : Height) → Piece side.Left 4 (spell_height v)
+pub height_piece : (v : Option Metres) → Piece side.Left 4 (spell_height v)
 unfolding spell_height
-height_piece height.Blank = spaces-piece side.Left 4
-height_piece (height.Filled m) = signed-piece m.0
+height_piece None = spaces-piece side.Left 4
+height_piece (Some m) = signed-piece m.0
 
 -- dates
-pub day_piece : (v : Day) → Piece side.Right 8 (spell_day v)
+pub day_piece : (v : Option Date) → Piece side.Right 8 (spell_day v)
 unfolding spell_day spell_date
-day_piece day.Blank = spaces-piece side.Right 8
-day_piece (day.Filled d) =
+day_piece None = spaces-piece side.Right 8
+day_piece (Some d) =
     solid-piece side.Right 8 (spell_date d) (simp spelled_length)
     (solid_digits 2 d.day (spell_digits 2 d.month (spell_digits 4 d.year [])) (solid_digits 2 d.month (spell_digits 4 d.year []) (solid_digits 4 d.year [] nothing_solid)))
 

@@ -58,8 +58,3 @@ field_found line at n rest h e f =
       rw size (omega (arith, f.0)),
       rw (size, sum) (sym (drop-drop (n + 1) at line) ∙ ap (drop (n + 1)) (sym e) ∙ sym f.2 ∙ ap behind e),
     )
-
--- A line without bytes has no last one.
-pub no_last : (t : List ℕ) → length t ≡ 0 → 0 ≡ get_or t (length t - 1) 0
-no_last [] e = refl
-no_last (c ∷ t) e = absurd (omega arith)

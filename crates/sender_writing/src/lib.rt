@@ -16,13 +16,10 @@ pub fn put_sender(h: Header, s: &mut [u8])
     requires { length s.old ≡ 100 }
     ensures { s.new ≡ joined (take 4 (drop 4 (header_pieces h))) }
 {
-    let mail = h.mail;
-    write_text(&mut s[0..40], &mail);
-    let telephone = h.telephone;
-    write_text(&mut s[40..60], &telephone);
+    write_text(&mut s[0..40], &h.mail);
+    write_text(&mut s[40..60], &h.telephone);
     write_blank(&mut s[60..80]);
-    let person = h.person;
-    write_text(&mut s[80..100], &person);
+    write_text(&mut s[80..100], &h.person);
 }
 
 // Fields 9 to 11, columns 187 to 203: the count, the date and where it goes.
@@ -31,8 +28,6 @@ pub fn put_sending(h: Header, s: &mut [u8])
     ensures { s.new ≡ joined (take 3 (drop 8 (header_pieces h))) }
 {
     put_whole(&mut s[0..6], h.count);
-    let date = h.date;
-    write_day(&mut s[6..14], date);
-    let destination = h.destination;
-    write_text(&mut s[14..17], &destination);
+    write_day(&mut s[6..14], h.date);
+    write_text(&mut s[14..17], &h.destination);
 }

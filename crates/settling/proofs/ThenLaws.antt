@@ -1,7 +1,7 @@
 -- One call and then another.
+use Rattle.basics.specs.Outcomes.{Outcome}
 use mathlib.Core.Path.{◌≡◌}
 use mathlib.Core.Bool.{true, false}
-use Rattle.basics.specs.declared.Outcome.{Outcome}
 use Rattle.basics.proofs.RefusalLaws.{done, if_done_lem, if_refused}
 use Rattle.settling.specs.Promises.{then}
 

@@ -1,7 +1,6 @@
 -- What settling a record promises, as a relation between what it is given, its answer and what it leaves.
 use Rattle.std.specs.Prelude.{ℕ, ◌≡◌, List}
-use Rattle.basics.specs.Outcomes.{if_done}
-use Rattle.basics.specs.declared.Outcome.{Outcome}
+use Rattle.basics.specs.Outcomes.{if_done, Outcome}
 use Rattle.station.specs.Calls.{write_outcome, written_station}
 use Rattle.station.specs.declared.setting.Settled.{Settled}
 use Rattle.reading.specs.declared.typed.ReadStation.{ReadStation}

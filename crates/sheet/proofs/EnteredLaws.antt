@@ -6,7 +6,7 @@ use Prim.Native.Nat.{ℕ, suc, ◌+◌, ◌-◌}
 use native.Mathlib.Decide.{ℕ_discrete}
 use native.Mathlib.Omega.{arith}
 use lib.Dec.{eqb}
-use lib.ListN.{take, drop, replicate}
+use lib.ListN.{take, drop}
 use borrow.Author.Tests.{eq-eqb, ne_eqb}
 use Rattle.columns.specs.Texts.{same}
 use Rattle.columns.proofs.SameLaws.{same_true}
@@ -16,15 +16,15 @@ use Rattle.forms.specs.Counting.{first}
 use Rattle.forms.specs.Forms.{row_bytes}
 use Rattle.forms.specs.OwnForm.{form}
 use Rattle.forms.proofs.CountLaws.{first_cong}
+use Rattle.chains.specs.declared.chaining.Chain.{Chain}
 use Rattle.chains.specs.declared.keys.Scope.{Scope}
-use Rattle.chains.specs.Chains.{bears, first_bearer, slots, record_numbers}
+use Rattle.chains.specs.Chains.{bears, first_bearer}
 use Rattle.chains.specs.Keys.{key_at}
 use Rattle.chains.specs.Scopes.{in_scope}
-use Rattle.chains.proofs.ChainLaws.{none-chained, out_leads_none, left_out}
-use Rattle.sites.specs.Kept.{unjudged}
+use Rattle.chains.proofs.ChainLaws.{out_leads_none, left_out}
+use Rattle.sites.specs.declared.KeptSites.{KeptSites}
 use Rattle.sites.specs.Sites.{GoodTakesPart, first_elsewhere}
-use Rattle.sites.proofs.KeptLaws.{none_kept}
-use Rattle.sites.proofs.SiteLaws.{no_sites, site_out}
+use Rattle.sites.proofs.SiteLaws.{site_out}
 use Rattle.clashes.specs.Clashes.{clash_at}
 use Rattle.clashes.proofs.ClashLaws.{own-broken, own_good}
 use Rattle.sheet.specs.Sheets.{twin_at, row_of}
@@ -68,21 +68,15 @@ module _ (file : List ℕ) (parts : ℕ → Bool) where
         rw (eo, e1, e2)
 
   -- A station that does not take part leaves all as it was.
-  pub entered_out : (codes heads nexts siteHeads siteNexts seconds : List ℕ) (i : ℕ) → parts (i + 1) ≡ false → Entered file parts codes heads nexts siteHeads siteNexts seconds i
-      → Entered file parts codes heads nexts siteHeads siteNexts seconds (i + 1)
-  entered_out codes heads nexts siteHeads siteNexts seconds i out so_far =
+  pub entered_out : (chain : Chain) (found : KeptSites) (i : ℕ) → parts (i + 1) ≡ false → Entered file parts chain found i → Entered file parts chain found (i + 1)
+  entered_out chain found i out so_far =
       let d : i + 1 - 1 ≡ i = omega arith in
       record {
         closed = so_far.closed;
         kept = so_far.kept;
-        references = left_out (by_reference parts file) heads nexts (i + 1) (omega arith) (rw d so_far.references) (out_leads_none (by_reference parts file) (i + 1) out);
-        sites = site_out file (good_of file parts) (i + 1) (omega arith) siteHeads siteNexts seconds (rw out) (rw d so_far.sites);
+        references = left_out (by_reference parts file) chain (i + 1) (omega arith) (rw d so_far.references) (out_leads_none (by_reference parts file) (i + 1) out);
+        sites = site_out file (good_of file parts) (i + 1) (omega arith) found (rw out) (rw d so_far.sites);
       }
-
-  -- Before any station none is entered.
-  pub none_entered : ((i j : ℕ) → site_at file i ≡ site_at file j → parts i ≡ parts j)
-      → Entered file parts (replicate record_numbers unjudged) (replicate slots 0) (replicate record_numbers 0) (replicate slots 0) (replicate record_numbers 0) (replicate record_numbers 0) 0
-  none_entered closed = record { closed = closed; kept = none_kept file; references = none-chained (by_reference parts file); sites = no_sites file (good_of file parts) }
 
 -- With one station all of its site are in scope.
 pub scope_closed : (scope : Scope) (file : List ℕ) (i j : ℕ) → site_at file i ≡ site_at file j → scoped scope file i ≡ scoped scope file j

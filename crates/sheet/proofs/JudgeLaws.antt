@@ -1,13 +1,12 @@
 -- How judging ends: what no refusal tells, and what it leaves.
+use Rattle.std.specs.Prelude.{Ok}
 use mathlib.Core.Path.{◌≡◌, refl, sym, ◌∙◌, subst}
 use mathlib.Core.Bool.{true, false}
 use mathlib.Core.List.{List}
 use Prim.Native.Nat.{ℕ}
 use lib.ListN.{length}
 use borrow.Author.Tests.{eqb-true, not-false}
-use Rattle.basics.specs.Outcomes.{refusal, if_done}
-use Rattle.basics.specs.declared.Outcome.{Outcome}
-use Rattle.basics.specs.declared.Outcome.TheVariants as outcome
+use Rattle.basics.specs.Outcomes.{refusal, if_done, Outcome}
 use Rattle.basics.proofs.RefusalLaws.{done, done_is, NoneApplies, none_applies}
 use Rattle.files.specs.Files.{stations}
 use Rattle.files.proofs.LengthLaws.{whole_records}
@@ -36,7 +35,7 @@ module _ (file sheet : List ℕ) where
   judge_refused e f = (e, sym (rw (← e, f)))
 
   -- and judging that is done the sheet of the file.
-  pub judge_done : {after : List ℕ} → done (judge_outcome file sheet) ≡ true → after ≡ judged_sheet file (stations file) → SheetJudged file sheet outcome.Done after
+  pub judge_done : {after : List ℕ} → done (judge_outcome file sheet) ≡ true → after ≡ judged_sheet file (stations file) → SheetJudged file sheet (Ok tt) after
   unfolding judged_into if_done sheet_of
   judge_done t e = (sym (done_is (judge_outcome file sheet) t), e ∙ sym (rw t))
 

@@ -1,8 +1,8 @@
 -- The promise of judging leaves one answer and one content of the lent bytes.
+use Rattle.basics.specs.Outcomes.{Outcome}
 use mathlib.Core.Path.{◌≡◌, sym, ◌∙◌}
 use mathlib.Core.List.{List}
 use Prim.Native.Nat.{ℕ}
-use Rattle.basics.specs.declared.Outcome.{Outcome}
 use Rattle.sheet.specs.Promises.{SheetJudged}
 
 -- Two answers of `judge` to one file and one sheet are equal, and so are the sheets that they leave.

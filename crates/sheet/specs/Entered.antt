@@ -3,11 +3,13 @@ use Rattle.std.specs.Prelude.{ℕ, ◌≡◌, Bool, true, cond, ◌&&◌, List, 
 use Rattle.words.specs.Words.{word_of}
 use Rattle.stations.specs.Stations.{code_at, site_at}
 use Rattle.forms.specs.OwnForm.{row_in}
+use Rattle.chains.specs.declared.chaining.Chain.{Chain}
 use Rattle.chains.specs.declared.keys.Key.TheVariants as key
 use Rattle.chains.specs.declared.keys.Scope.{Scope}
 use Rattle.chains.specs.Chains.{Search, Chains}
 use Rattle.chains.specs.Keys.{lookup, Chained}
 use Rattle.chains.specs.Scopes.{in_scope}
+use Rattle.sites.specs.declared.KeptSites.{KeptSites}
 use Rattle.sites.specs.Kept.{Kept}
 use Rattle.sites.specs.Sites.{Sites}
 use Rattle.sheet.specs.Sheets.{row_of}
@@ -17,24 +19,24 @@ abbrev pub by_reference : (ℕ → Bool) → List ℕ → Search
 by_reference parts file = lookup key.Reference parts file
 
 -- The stations to m are chained by it, whoever takes part.
-abbrev pub ReferencesChained : List ℕ → List ℕ → List ℕ → ℕ → Type 0
-ReferencesChained file heads nexts m = Chained key.Reference file heads nexts m
+abbrev pub ReferencesChained : List ℕ → Chain → ℕ → Type 0
+ReferencesChained file chain m = Chained key.Reference file chain m
 
 -- Of those that take part, the ones that break no rule.
 abbrev pub good_of : List ℕ → (ℕ → Bool) → ℕ → Bool
 good_of file parts i = parts i && eqb (code_at file i) 0
 
 -- The stations to m that take part are entered; with one station all of its site take part.
-pub record Entered (file : List ℕ) (parts : ℕ → Bool) (codes heads nexts site_heads site_nexts seconds : List ℕ) (m : ℕ) : Type 0 where
+pub record Entered (file : List ℕ) (parts : ℕ → Bool) (chain : Chain) (found : KeptSites) (m : ℕ) : Type 0 where
   pub closed : (i j : ℕ) → site_at file i ≡ site_at file j → parts i ≡ parts j
-  pub kept : Kept file codes
-  pub references : Chains (by_reference parts file) heads nexts m
-  pub sites : Sites file (good_of file parts) site_heads site_nexts seconds m
+  pub kept : Kept file found.codes
+  pub references : Chains (by_reference parts file) chain m
+  pub sites : Sites file (good_of file parts) found m
 
 -- So they are, whoever takes part.
-pub record SomeEntered (file codes heads nexts site_heads site_nexts seconds : List ℕ) (m : ℕ) : Type 0 where
+pub record SomeEntered (file : List ℕ) (chain : Chain) (found : KeptSites) (m : ℕ) : Type 0 where
   pub parts : ℕ → Bool
-  pub entered : Entered file parts codes heads nexts site_heads site_nexts seconds m
+  pub entered : Entered file parts chain found m
 
 -- Everybody takes part.
 abbrev pub everybody : ℕ → Bool

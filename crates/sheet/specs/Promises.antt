@@ -1,6 +1,6 @@
 -- What judging promises, as a relation between what it is given, its answer and what it leaves in the lent bytes.
+use Rattle.basics.specs.Outcomes.{Outcome}
 use Rattle.std.specs.Prelude.{ℕ, ◌+◌, ◌*◌, ◌≤◌, ◌≡◌, List, length}
-use Rattle.basics.specs.declared.Outcome.{Outcome}
 use Rattle.basics.specs.Fields.{record_length}
 use Rattle.files.specs.Files.{most_stations}
 use Rattle.forms.specs.OwnForm.{sheet_length}

@@ -6,8 +6,7 @@ ghost use Rattle.sheet.specs.Sheets.{judged_sheet};
 ghost use Rattle.sheet.specs.Calls.{judge_outcome};
 ghost use Rattle.sheet.specs.Promises.{SheetJudged, Sized};
 
-use basics::Outcome;
-use basics::outcomes::is_done;
+use basics::Refusal;
 use chains::keys::Scope;
 use files::lengths::{MOST_STATIONS, check_file, record_in, stations_in};
 use forms::form::{ROW_WIDTH, TRAILER_LENGTH};
@@ -34,29 +33,23 @@ pub fn judge_sized(file: &[u8], sheet: &mut [u8], n: usize)
 }
 
 // How judging ends: 1, 2, 3, or done.
-pub fn judge_outcome(file: &[u8], sheet: &[u8]) -> Outcome
+pub fn judge_outcome(file: &[u8], sheet: &[u8]) -> Result<(), Refusal>
     ensures { result ≡ judge_outcome file.now sheet.now }
 {
-    let length = check_file(file);
-    if !is_done(length) {
-        return length;
-    }
+    check_file(file)?;
     let n = stations_in(file);
     if sheet.len() != ROW_WIDTH * n + TRAILER_LENGTH {
-        return Outcome::SheetLength;
+        return Err(Refusal::SheetLength);
     }
-    Outcome::Done
+    Ok(())
 }
 
 // Judges a file into the lent sheet; a refusal leaves every byte as it was.
-pub fn judge(file: &[u8], sheet: &mut [u8]) -> Outcome
+pub fn judge(file: &[u8], sheet: &mut [u8]) -> Result<(), Refusal>
     ensures { SheetJudged file.now sheet.old result sheet.new }
 {
-    let outcome = judge_outcome(file, sheet);
-    if !is_done(outcome) {
-        return outcome;
-    }
+    judge_outcome(file, sheet)?;
     let n = stations_in(file);
     judge_sized(file, sheet, n);
-    Outcome::Done
+    Ok(())
 }

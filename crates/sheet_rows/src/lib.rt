@@ -8,11 +8,9 @@ ghost use Rattle.forms.specs.OwnForm.{row_width};
 ghost use Rattle.sheet.specs.Entered.{written, written_row};
 ghost use Rattle.sheet.specs.Promises.{Sized};
 
-use chains::chaining::RECORD_NUMBERS;
-use chains::keys::{SLOTS, Scope, in_scope, site_number};
+use chains::keys::{Scope, in_scope, site_number};
 use forms::form::ROW_WIDTH;
-use sites::{CODES, UNJUDGED};
-use station_rows::{enter_station, station_row};
+use station_rows::EnteredStations;
 
 // Writes a row's bytes as row i + 1 of the sheet.
 fn put_row(sheet: &mut [u8], row: [u8; ROW_WIDTH], i: usize)
@@ -31,41 +29,16 @@ pub fn put_rows(file: &[u8], sheet: &mut [u8], n: usize, scope: Scope, from: usi
     ensures value { result ≡ count (written scope from file.now) n }
     ensures sheet_after { sheet.new ≡ rows (written_row scope from file.now sheet.old) n ++ drop (row_width * n) sheet.old }
 {
-    let mut codes = [UNJUDGED; CODES];
-    let mut heads = [0u16; SLOTS];
-    let mut nexts = [0u16; RECORD_NUMBERS];
-    let mut site_heads = [0u16; SLOTS];
-    let mut site_nexts = [0u16; RECORD_NUMBERS];
-    let mut seconds = [0u16; RECORD_NUMBERS];
+    let mut entered = EnteredStations::new();
     let mut wrote: usize = 0;
-    let mut i = 0;
-    while i < n {
-        let at = i;
-        i = at + 1;
-        if in_scope(scope, site_number(file, i)) {
-            if i < from {
-                enter_station(
-                    file,
-                    &mut codes,
-                    &mut heads,
-                    &mut nexts,
-                    &mut site_heads,
-                    &mut site_nexts,
-                    &mut seconds,
-                    i,
-                );
+    for i in 0..n {
+        let k = i + 1;
+        if in_scope(scope, site_number(file, k)) {
+            if k < from {
+                entered.enter_station(file, k);
             } else {
-                let row = station_row(
-                    file,
-                    &mut codes,
-                    &mut heads,
-                    &mut nexts,
-                    &mut site_heads,
-                    &mut site_nexts,
-                    &mut seconds,
-                    i,
-                );
-                put_row(sheet, row, at);
+                let row = entered.station_row(file, k);
+                put_row(sheet, row, i);
                 wrote += 1;
             }
         }

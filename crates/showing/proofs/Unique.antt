@@ -1,4 +1,5 @@
 -- The promises of showing leave one answer.
+use Rattle.basics.specs.Outcomes.{Outcome}
 use mathlib.Core.Path.{◌≡◌, sym, ap, ◌∙◌}
 use mathlib.Core.Bool.{true}
 use mathlib.Core.List.{List}
@@ -6,7 +7,6 @@ use Prim.Native.Nat.{ℕ, ◌+◌, ◌-◌, ◌*◌, ◌≤◌}
 use native.Mathlib.Omega.{arith}
 use denote.Ref.{Bor}
 use Rattle.basics.specs.Fields.{place_of}
-use Rattle.basics.specs.declared.Outcome.{Outcome}
 use Rattle.basics.proofs.RefusalLaws.{done}
 use Rattle.places.specs.Places.{places_of}
 use Rattle.places.proofs.PlaceLaws.{not_header}

@@ -1,8 +1,8 @@
 -- What showing promises, as relations between what it is given and its answers.
+use Rattle.basics.specs.Outcomes.{Outcome}
 use Rattle.std.specs.Prelude.{ℕ, ◌≡◌, List}
 use Rattle.std.specs.Borrow.{Bor}
 use Rattle.basics.specs.Pieces.{StandsAt}
-use Rattle.basics.specs.declared.Outcome.{Outcome}
 use Rattle.showing.specs.Showing.{show_outcome, shown_field, shown_offset}
 
 -- `show_outcome`: how showing field j of record k ends.

@@ -1,9 +1,8 @@
 -- Document 01, "The filing and its files" and "Refusal numbers": a field of a record, and how showing it ends.
-use Rattle.std.specs.Prelude.{ℕ, ◌+◌, ◌-◌, ◌*◌, ◌||◌, List, [], ◌∷◌, ◌++◌, ltb, eqb}
+use Rattle.std.specs.Prelude.{ℕ, ◌+◌, ◌-◌, ◌*◌, ◌||◌, List, [], ◌∷◌, ◌++◌, ltb, eqb, Err}
 use Rattle.basics.specs.Fields.{record_length, cut, at, place_of}
-use Rattle.basics.specs.Outcomes.{if_done, Test, when, first_refusal}
-use Rattle.basics.specs.declared.Outcome.{Outcome}
-use Rattle.basics.specs.declared.Outcome.TheVariants as outcome
+use Rattle.basics.specs.Outcomes.{if_done, Test, when, first_refusal, Outcome}
+use Rattle.basics.specs.declared.Refusal.TheVariants as why
 use Rattle.places.specs.Places.{places_of, field_count}
 use Rattle.files.specs.Files.{record_at}
 use Rattle.files.specs.Calls.{file_tests, number_test}
@@ -14,7 +13,7 @@ field_at file k j = at (cut (places_of k) (record_at file k)) j
 
 -- The record has no such field.
 abbrev pub field_test : ℕ → ℕ → Test
-field_test k j = when (eqb j 0 || ltb (field_count k) j) outcome.NoSuchField
+field_test k j = when (eqb j 0 || ltb (field_count k) j) (Err why.NoSuchField)
 
 -- Showing uses 1, 2, 5 and 8.
 unfoldable pub show_outcome : List ℕ → ℕ → ℕ → Outcome

@@ -6,8 +6,7 @@ ghost use Rattle.places.specs.Places.{field_count};
 ghost use Rattle.basics.specs.Pieces.{StandsAt};
 ghost use Rattle.showing.specs.Promises.{ShowJudged, FieldShown};
 
-use basics::outcomes::is_done;
-use basics::{Outcome, Place};
+use basics::{Place, Refusal};
 use files::lengths::{check_file, record_in, stations_in};
 use places::field_place;
 
@@ -25,20 +24,17 @@ fn has_field(k: usize, j: usize) -> bool
 }
 
 // How showing field j of record k ends: 1, 2, 5, 8, or done.
-pub fn show_outcome(file: &[u8], k: usize, j: usize) -> Outcome
+pub fn show_outcome(file: &[u8], k: usize, j: usize) -> Result<(), Refusal>
     ensures { ShowJudged file.now k j result }
 {
-    let outcome = check_file(file);
-    if !is_done(outcome) {
-        return outcome;
-    }
+    check_file(file)?;
     if k > stations_in(file) {
-        return Outcome::NoSuchRecord;
+        return Err(Refusal::NoSuchRecord);
     }
     if !has_field(k, j) {
-        return Outcome::NoSuchField;
+        return Err(Refusal::NoSuchField);
     }
-    Outcome::Done
+    Ok(())
 }
 
 // Field j of a record that has it.
@@ -55,7 +51,7 @@ fn field_in(rec: &[u8], place: Place) -> &[u8]
 pub fn show(file: &[u8], k: usize, j: usize) -> &[u8]
     ensures { FieldShown file.entry k j result }
 {
-    if !is_done(show_outcome(file, k, j)) {
+    if show_outcome(file, k, j).is_err() {
         return &file[..0];
     }
     field_in(record_in(file, k), field_place(k, j))

@@ -6,8 +6,8 @@ ghost use Rattle.flaws.specs.Flaws.{letter_of, unread};
 ghost use Rattle.numerals.specs.Numbers.{amount, with_sign, in_sign, has_minus, unsigned, signed_of};
 
 use columns::texts::{byte, spaces};
-use flaws::unread_of;
-use numerals::{Signed, Whole, only_digits};
+use flaws::{Flaw, unread_of};
+use numerals::{Unread, only_digits};
 
 // v, or -v.
 fn with_sign(minus: bool, v: u64) -> i64
@@ -19,14 +19,18 @@ fn with_sign(minus: bool, v: u64) -> i64
 }
 
 // A number whose sign is known; where the digits of a field say none, what is wrong with the field, by the letters that it admits.
-pub fn in_sign(minus: bool, w: Whole, letters: &[u8], s: &[u8]) -> Signed
+pub fn in_sign(
+    minus: bool,
+    w: Result<Option<u64>, Unread>,
+    letters: &[u8],
+    s: &[u8],
+) -> Result<Option<i64>, Flaw>
     requires { amount w < 10 ^ 18 }
     ensures { result ≡ in_sign (unread (letter_of letters.now) s.now) minus w }
 {
-    match w {
-        Whole::Bad => Signed::Bad(unread_of(letters, s)),
-        Whole::Blank => Signed::Bad(unread_of(letters, s)),
-        Whole::Filled(v) => Signed::Filled(with_sign(minus, v)),
+    match w.unwrap_or(None) {
+        Some(v) => Ok(Some(with_sign(minus, v))),
+        None => Err(unread_of(letters, s)),
     }
 }
 
@@ -52,12 +56,12 @@ pub fn after_sign(sign: bool, t: &[u8]) -> &[u8]
 }
 
 // Spaces, at most one sign, then digits to the last column.
-pub fn read_signed(s: &[u8]) -> Signed
+pub fn read_signed(s: &[u8]) -> Result<Option<i64>, Flaw>
     ensures { result ≡ signed_of s.now }
 {
     let i = spaces(s);
     if i == s.len() {
-        return Signed::Blank;
+        return Ok(None);
     }
     let t = &s[i..];
     let minus = has_minus(true, t);

@@ -7,6 +7,7 @@ use Rattle.chains.specs.declared.keys.Key.TheVariants as key
 use Rattle.chains.specs.Chains.{Search, Chains}
 use Rattle.chains.specs.Seconds.{apart, Seconds}
 use Rattle.chains.specs.Keys.{lookup}
+use Rattle.sites.specs.declared.KeptSites.{KeptSites}
 
 -- Stations are looked up by operator and site.
 abbrev pub at_site : (ℕ → Bool) → List ℕ → Search
@@ -21,11 +22,11 @@ abbrev pub first_elsewhere : List ℕ → (ℕ → Bool) → ℕ → ℕ
 first_elsewhere file who k = first (apart (at_site who file) (stand_alike file) k) (k - 1)
 
 -- The sites of the stations to m that take part are kept;
-pub record Sites (file : List ℕ) (who : ℕ → Bool) (heads nexts seconds : List ℕ) (m : ℕ) : Type 0 where
-  pub chains : Chains (at_site who file) heads nexts m
-  pub elsewhere : Seconds (at_site who file) (stand_alike file) seconds m
+pub record Sites (file : List ℕ) (who : ℕ → Bool) (kept : KeptSites) (m : ℕ) : Type 0 where
+  pub chains : Chains (at_site who file) kept.chain m
+  pub elsewhere : Seconds (at_site who file) (stand_alike file) kept.seconds m
 
 -- and so they are, whoever takes part.
-pub record SomeSites (file heads nexts seconds : List ℕ) (m : ℕ) : Type 0 where
+pub record SomeSites (file : List ℕ) (kept : KeptSites) (m : ℕ) : Type 0 where
   pub who : ℕ → Bool
-  pub sites : Sites file who heads nexts seconds m
+  pub sites : Sites file who kept m

@@ -5,8 +5,6 @@ use mathlib.Core.List.{List, []}
 use Prim.Native.Nat.{ℕ}
 use lib.IntN.{ℤ}
 use Rattle.columns.specs.Texts.{every}
-use Rattle.numerals.specs.declared.Signed.{Signed}
-use Rattle.numerals.specs.declared.Signed.TheVariants as signed
 use Rattle.formats.specs.Tenths.{in_tenths}
 use Rattle.distances.specs.Distances.{in_metres}
 use Rattle.flaws.specs.Flaws.{ranged}
@@ -14,6 +12,7 @@ use Rattle.flaw_parts.specs.Parts.{number_within, bounded, flaw_in}
 use Rattle.flaws.specs.declared.Flaw.{Flaw}
 use Rattle.flaws.specs.declared.Flaw.TheVariants as flaw
 use Rattle.spans.specs.Numbers.{was_read, said_tenths, said_height}
+use Rattle.std.specs.Prelude.{Option, Some, None, Result, Ok, Err}
 
 -- Three tests of a field, and the third anew.
 abbrev judged : Bool → Bool → Bool → Flaw
@@ -42,12 +41,12 @@ module _ (admits : ℕ → Bool) (reads old new : List ℕ → Bool) (p : List �
   read_anew e = sym (by_range ∙ ap (λ (t : Bool). cond t (ranged (new p)) (flaw_in (bounded admits reads old) [] p)) (seen ∙ e))
 
 -- What was read, by its typed value.
-pub tenths_said : (range : ℤ → Bool) (v : Signed) → ranged (number_within range v) ≡ said_tenths range (in_tenths v)
-tenths_said range (signed.Bad wrong) = refl
-tenths_said range signed.Blank = refl
-tenths_said range (signed.Filled z) = refl
+pub tenths_said : (range : ℤ → Bool) (v : Result (Option ℤ) Flaw) → ranged (number_within range v) ≡ said_tenths range (in_tenths v)
+tenths_said range (Err wrong) = refl
+tenths_said range (Ok None) = refl
+tenths_said range (Ok (Some z)) = refl
 
-pub height_said : (range : ℤ → Bool) (v : Signed) → ranged (number_within range v) ≡ said_height range (in_metres v)
-height_said range (signed.Bad wrong) = refl
-height_said range signed.Blank = refl
-height_said range (signed.Filled z) = refl
+pub height_said : (range : ℤ → Bool) (v : Result (Option ℤ) Flaw) → ranged (number_within range v) ≡ said_height range (in_metres v)
+height_said range (Err wrong) = refl
+height_said range (Ok None) = refl
+height_said range (Ok (Some z)) = refl

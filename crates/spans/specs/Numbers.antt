@@ -1,18 +1,15 @@
 -- Document 02, wish 13: the kinds of entry that are numbers, over their lowest and highest.
-use Rattle.std.specs.Prelude.{ℕ, Bool, true, false, List, [], ℤ}
+use Rattle.std.specs.Prelude.{ℕ, Bool, true, false, List, [], ℤ, Option, Some, None}
 use Rattle.numerals.specs.Numbers.{whole_of, amount, signed_of, admits_whole}
 use Rattle.formats.specs.Formats.{may_sign, format_of}
 use Rattle.formats.specs.declared.Format.{Format}
-use Rattle.formats.specs.declared.Tenths.{Tenths}
-use Rattle.formats.specs.declared.Tenths.TheVariants as tenths
-use Rattle.distances.specs.declared.Height.{Height}
-use Rattle.distances.specs.declared.Height.TheVariants as heights
 use Rattle.flaws.specs.Flaws.{ranged}
 use Rattle.decimals.specs.Decimals.{admits_decimal}
 use Rattle.flaw_parts.specs.Parts.{whole_there, bounded, numbered, flaw_in}
 use Rattle.flaws.specs.declared.Flaw.{Flaw}
 use Rattle.flaws.specs.declared.Flaw.TheVariants as flaw
 use Rattle.spans.specs.Spans.{from_to, span}
+use Rattle.distances.specs.declared.Metres.{Metres}
 
 -- A field that has this flaw was read, in its range or not.
 abbrev pub was_read : Flaw → Bool
@@ -23,13 +20,13 @@ was_read flaw.Shape = false
 was_read flaw.Between = true
 
 -- The flaw of what was read, by a range.
-abbrev pub said_tenths : (ℤ → Bool) → Tenths → Flaw
-said_tenths range tenths.Blank = flaw.None
-said_tenths range (tenths.Filled z) = ranged (range z)
+abbrev pub said_tenths : (ℤ → Bool) → Option ℤ → Flaw
+said_tenths range None = flaw.None
+said_tenths range (Some z) = ranged (range z)
 
-abbrev pub said_height : (ℤ → Bool) → Height → Flaw
-said_height range heights.Blank = flaw.None
-said_height range (heights.Filled m) = ranged (range m.0)
+abbrev pub said_height : (ℤ → Bool) → Option Metres → Flaw
+said_height range None = flaw.None
+said_height range (Some m) = ranged (range m.0)
 
 -- ---- the kinds
 

@@ -6,7 +6,7 @@ ghost use Rattle.formats.specs.Formats.{may_sign};
 ghost use Rattle.spans.specs.Spans.{from_to, span};
 ghost use Rattle.spans.specs.Numbers.{was_read, said_tenths, said_height, decimal_entry, height_entry, whole_entry};
 
-use distances::{Height, read_height};
+use distances::{Metres, read_height};
 use flaws::Flaw;
 use formats::{Format, Tenths};
 use number_flaws::{height_flaw, range_flaw, tenths_flaw, whole_flaw};
@@ -56,18 +56,18 @@ fn said_tenths(sign: bool, low: usize, high: usize, v: Tenths) -> Flaw
     ensures { result ≡ said_tenths (span sign low high) v }
 {
     match v {
-        Tenths::Blank => Flaw::None,
-        Tenths::Filled(z) => range_flaw(in_span(sign, low, high, z)),
+        None => Flaw::None,
+        Some(z) => range_flaw(in_span(sign, low, high, z)),
     }
 }
 
 // The flaw of a height that was read.
-fn said_height(low: usize, high: usize, v: Height) -> Flaw
+fn said_height(low: usize, high: usize, v: Option<Metres>) -> Flaw
     ensures { result ≡ said_height (span true low high) v }
 {
     match v {
-        Height::Blank => Flaw::None,
-        Height::Filled(m) => range_flaw(in_span(true, low, high, m.0)),
+        None => Flaw::None,
+        Some(m) => range_flaw(in_span(true, low, high, m.0)),
     }
 }
 

@@ -3,17 +3,12 @@ ghost use Rattle.std.specs.Prelude.{◌≡◌, ◌+◌, ◌-◌, ◌≤◌, leng
 ghost use Rattle.semicolons.specs.Lines.{before, behind, marked_with, is_line};
 
 use crate::marks::{count, field_length};
-use columns::texts::byte;
 
 // The last byte of a text; 0 where it has none.
-fn last_byte(line: &[u8]) -> u8
+pub fn last_byte(line: &[u8]) -> u8
     ensures { result ≡ get_or line.now (length line.now - 1) 0 }
 {
-    let n = line.len();
-    if n == 0 {
-        return 0;
-    }
-    byte(line, n - 1)
+    line.last().copied().unwrap_or(0)
 }
 
 // So many semicolons and one line feed, the last byte.
@@ -48,11 +43,10 @@ pub fn field_at(line: &[u8], at: usize) -> &[u8]
 
 // Where the next field begins, behind one that ends at the given place.
 pub fn past(line: &[u8], end: usize) -> usize
-    requires { end ≤ length line.now }
     ensures { (result ≤ length line.now) × (drop result line.now ≡ drop (end + 1) line.now) }
 {
     if end < line.len() {
         return end + 1;
     }
-    end
+    line.len()
 }

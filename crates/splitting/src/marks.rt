@@ -8,40 +8,22 @@ fn count_few(text: &[u8], mark: u8) -> u8
     requires { length text.now < 256 }
     ensures { (result ≤ length text.now) × (result ≡ how_many (λ c. eqb c mark) text.now) }
 {
-    let mut n: u8 = 0;
-    let mut i: usize = 0;
-    while i < text.len() {
-        let c = text[i];
-        i += 1;
-        if c == mark {
+    let mut n = 0;
+    for c in text {
+        if *c == mark {
             n += 1;
         }
     }
     n
 }
 
-// Where a short part of n bytes ends that begins at i.
-fn short_end(i: usize, n: usize) -> usize
-    requires { i < n }
-    ensures { (i < result) × (result ≤ n) × (result < i + 256) }
-{
-    if n - i < 256 {
-        return n;
-    }
-    i + 255
-}
-
 // How many bytes of a line are the given one.
 pub fn count(line: &[u8], mark: u8) -> usize
     ensures { result ≡ how_many (λ c. eqb c mark) line.now }
 {
-    let mut n: usize = 0;
-    let mut i: usize = 0;
-    while i < line.len() {
-        let end = short_end(i, line.len());
-        let few = count_few(&line[i..end], mark);
-        n += few as usize;
-        i = end;
+    let mut n = 0;
+    for part in line.chunks(255) {
+        n += usize::from(count_few(part, mark));
     }
     n
 }
@@ -60,12 +42,10 @@ pub fn is_mark(c: u8) -> bool
 pub fn field_length(s: &[u8]) -> usize
     ensures { (result ≤ length s.now) × (before s.now ≡ take result s.now) × (behind s.now ≡ drop (result + 1) s.now) }
 {
-    let mut i: usize = 0;
-    while i < s.len() {
-        if is_mark(s[i]) {
+    for (i, c) in s.iter().enumerate() {
+        if is_mark(*c) {
             return i;
         }
-        i += 1;
     }
-    i
+    s.len()
 }

@@ -10,14 +10,15 @@ use borrow.Author.Tests.{eq-eqb, ne_eqb, eqb-true}
 use mir.Syntax.{w64}
 use mir.Val.{SFits, to_z, of_z}
 use mir.Facts.{to_z-of_z}
-use Rattle.positions.specs.declared.Located.{Located}
-use Rattle.positions.specs.declared.Located.TheVariants as located
 use Rattle.positions.specs.Positions.{located_of}
 use Rattle.distances.specs.Distances.{ground_of}
 use Rattle.station.specs.Places.{fields_of}
 use Rattle.files.specs.Files.{record_at}
 use Rattle.stations.specs.Stations.{position_at, ground_at}
 use Rattle.standing.specs.Standing.{same_count, same_place, stand_alike}
+use Rattle.std.specs.Prelude.{Result, Ok, Err}
+use Rattle.flaws.specs.declared.Flaw.{Flaw}
+use Rattle.positions.specs.declared.Position.{Position}
 
 -- A count is the same as itself,
 pub count_same : (z : ℤ) → same_count z z ≡ true
@@ -43,20 +44,20 @@ bits_same a b fa fb = by_case (same_count a b) refl
     by_case false e = ne_eqb (of_z w64 a) (of_z w64 b) (λ q. other_count a b e (sym (to_z-of_z fa) ∙ ap (λ (n : ℕ). to_z w64 n) q ∙ to_z-of_z fb))
 
 -- A place is the same as itself,
-pub place_same : (p : Located) → same_place p p ≡ true
+pub place_same : (p : Result Position Flaw) → same_place p p ≡ true
 unfolding same_place
-place_same (located.Bad wrong) = refl
-place_same (located.Filled p) = rw (count_same p.east, count_same p.north)
+place_same (Err wrong) = refl
+place_same (Ok p) = rw (count_same p.east, count_same p.north)
 
 -- and one that is the same as another is the same as all that the other is.
-pub place_like : (x p q : Located) → same_place p q ≡ true → same_place x p ≡ same_place x q
+pub place_like : (x p q : Result Position Flaw) → same_place p q ≡ true → same_place x p ≡ same_place x q
 unfolding same_place
-place_like (located.Bad wrong) (located.Bad other) (located.Bad last) e = refl
-place_like (located.Filled x) (located.Bad other) (located.Bad last) e = refl
-place_like x (located.Bad other) (located.Filled q) e = absurd (false≢true e)
-place_like x (located.Filled p) (located.Bad other) e = absurd (false≢true e)
-place_like (located.Bad wrong) (located.Filled p) (located.Filled q) e = refl
-place_like (located.Filled x) (located.Filled p) (located.Filled q) e =
+place_like (Err wrong) (Err other) (Err last) e = refl
+place_like (Ok x) (Err other) (Err last) e = refl
+place_like x (Err other) (Ok q) e = absurd (false≢true e)
+place_like x (Ok p) (Err other) e = absurd (false≢true e)
+place_like (Err wrong) (Ok p) (Ok q) e = refl
+place_like (Ok x) (Ok p) (Ok q) e =
     let both = (and-eq-true_iff (same_count p.east q.east) (same_count p.north q.north)).0 e in
     rw (same_count_lem p.east q.east both.0, same_count_lem p.north q.north both.1)
 

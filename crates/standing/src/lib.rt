@@ -1,14 +1,15 @@
 // Standing: whether two stations of a file stand at one place and one height.
 #![tactic(auto)]
 
-ghost use Rattle.std.specs.Prelude.{◌≡◌, true, ◌+◌, ◌*◌, ◌≤◌, length};
-ghost use Rattle.basics.specs.Fields.{record_length};
+ghost use Rattle.std.specs.Prelude.{◌≡◌, true};
+ghost use Rattle.files.specs.Files.{HasRecord};
 ghost use Rattle.standing.specs.Standing.{same_count, same_position, same_place, stand_alike};
 
 use columns::texts::equal;
 use distances::Metres;
 use files::lengths::whole_record;
-use positions::{Located, Position};
+use flaws::Flaw;
+use positions::Position;
 use stations::{ground, position};
 use words::equal_words;
 
@@ -38,24 +39,21 @@ fn same_height(a: Metres, b: Metres) -> bool
 }
 
 // Whether two places are one.
-fn same_place(a: Located, b: Located) -> bool
+fn same_place(a: Result<Position, Flaw>, b: Result<Position, Flaw>) -> bool
     ensures { result ≡ same_place a b }
 {
     match a {
-        Located::Bad(_) => match b {
-            Located::Bad(_) => true,
-            Located::Filled(_) => false,
+        Ok(p) => match b {
+            Ok(q) => same_position(p, q),
+            Err(_) => false,
         },
-        Located::Filled(p) => match b {
-            Located::Bad(_) => false,
-            Located::Filled(q) => same_position(p, q),
-        },
+        Err(_) => b.is_err(),
     }
 }
 
 // Whether stations i and k stand at one place and height; the height, which costs less, is asked first.
 fn stand_alike(file: &[u8], i: usize, k: usize) -> bool
-    requires { (record_length * i + record_length ≤ length file.now) × (record_length * k + record_length ≤ length file.now) }
+    requires { HasRecord file.now i × HasRecord file.now k }
     ensures { result ≡ stand_alike file.now i k }
 {
     if same_height(ground(file, i), ground(file, k)) {
@@ -67,7 +65,7 @@ fn stand_alike(file: &[u8], i: usize, k: usize) -> bool
 
 // Whether stations i and k spell place and height in the same bytes: then they stand alike, and need not be read.
 fn spelled_alike(file: &[u8], i: usize, k: usize) -> bool
-    requires { (record_length * i + record_length ≤ length file.now) × (record_length * k + record_length ≤ length file.now) }
+    requires { HasRecord file.now i × HasRecord file.now k }
     ensures { result ≡ true → stand_alike file.now i k ≡ true }
 {
     let theirs = whole_record(file, i);
@@ -81,7 +79,7 @@ fn spelled_alike(file: &[u8], i: usize, k: usize) -> bool
 
 // Whether stations i and k stand at one place and height; what is spelled alike is not read.
 pub fn alike(file: &[u8], i: usize, k: usize) -> bool
-    requires { (record_length * i + record_length ≤ length file.now) × (record_length * k + record_length ≤ length file.now) }
+    requires { HasRecord file.now i × HasRecord file.now k }
     ensures { result ≡ stand_alike file.now i k }
 {
     if spelled_alike(file, i, k) {

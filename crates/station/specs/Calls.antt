@@ -1,7 +1,6 @@
 -- Document 01, "Refusal numbers": how the calls on stations end, and what they hand back and leave.
 use Rattle.std.specs.Prelude.{ℕ, List, [], ◌∷◌}
-use Rattle.basics.specs.Outcomes.{if_done, first_refusal, record_test, buffer_test, rule_test, judged}
-use Rattle.basics.specs.declared.Outcome.{Outcome}
+use Rattle.basics.specs.Outcomes.{if_done, first_refusal, record_test, buffer_test, rule_test, judged, Outcome}
 use Rattle.station.specs.Values.{empty_station}
 use Rattle.station.specs.Spelling.{spell_station}
 use Rattle.station.specs.Codes.{value_of, station_code, typed_code}

@@ -3,16 +3,16 @@ ghost use Rattle.station.specs.Promises.{StationSet, PowerSet, AzimuthSet, Eleva
 
 use crate::Station;
 use crate::typed::typed_code;
-use basics::Outcome;
-use basics::outcomes::{is_done, judged};
-use distances::{Height, Metres};
+use basics::Refusal;
+use basics::outcomes::judged;
+use distances::Metres;
 use formats::Tenths;
 use station_groups::{Antenna, Emission, Site};
 
 // How setting ended, and the station: the changed one, or on a refusal the one that was given.
 #[derive(Clone, Copy)]
 pub struct Settled {
-    pub outcome: Outcome,
+    pub outcome: Result<(), Refusal>,
     pub station: Station,
 }
 
@@ -21,7 +21,7 @@ fn settle(given: Station, changed: Station) -> Settled
     ensures { StationSet given changed result }
 {
     let outcome = judged(typed_code(changed));
-    if is_done(outcome) {
+    if outcome.is_ok() {
         return Settled {
             outcome,
             station: changed,
@@ -71,7 +71,7 @@ impl Station {
     }
 
     // Sets 4Z.
-    pub fn set_height(self, v: Height) -> Settled
+    pub fn set_height(self, v: Option<Metres>) -> Settled
         ensures { HeightSet self v result }
     {
         let mut changed = self;

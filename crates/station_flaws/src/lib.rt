@@ -5,7 +5,7 @@ ghost use Rattle.std.specs.Prelude.{◌≡◌, ◌≤◌, length};
 ghost use Rattle.coordination_flaws.specs.Flaws.{record_flaw};
 ghost use Rattle.station_flaws.specs.Promises.{StationExplained};
 
-use basics::Outcome;
+use basics::Refusal;
 use basics::outcomes::code_with;
 use coordination_flaws::coordination_flaw;
 use flaws::Flaw;
@@ -23,7 +23,7 @@ use symbols::{is_basis, is_carrier, is_category};
 // How reading a record ends, and the flaw that comes with its code.
 #[derive(Clone, Copy)]
 pub struct Explained {
-    pub outcome: Outcome,
+    pub outcome: Result<(), Refusal>,
     pub flaw: Flaw,
 }
 

@@ -1,20 +1,19 @@
 // A station's row: no other crate knows what a row holds.
 #![tactic(auto)]
 
-ghost use Rattle.std.specs.Prelude.{◌≡◌, Bool, true, cond, ◌∷◌, [], ℕ, ◌+◌, ◌-◌, ◌*◌, ◌≤◌, eqb, length};
-ghost use Rattle.basics.specs.Fields.{record_length};
-ghost use Rattle.files.specs.Files.{most_stations};
+ghost use Rattle.std.specs.Prelude.{◌≡◌, Bool, true, cond, List, ◌∷◌, [], ℕ, ◌-◌, ◌≤◌, eqb};
+ghost use Rattle.files.specs.Files.{HasRecord, most_stations};
+ghost use Rattle.stations.specs.Stations.{site_at};
 ghost use Rattle.forms.specs.Forms.{row_bytes};
 ghost use Rattle.forms.specs.OwnForm.{form};
 ghost use Rattle.sheet.specs.Sheets.{row_of};
 ghost use Rattle.sheet.specs.Entered.{Entered, SomeEntered};
 
 use crate::twins::enter_reference;
-use chains::chaining::RECORD_NUMBERS;
-use chains::keys::SLOTS;
+use chains::chaining::Chain;
 use clashes::enter_site;
 use forms::form::ROW_WIDTH;
-use sites::{CODES, kept_code};
+use sites::KeptSites;
 
 mod twins;
 
@@ -38,46 +37,47 @@ fn own_clash(own: u8, elsewhere: u16) -> u16
     if own == 0 { elsewhere } else { 0 }
 }
 
-// Enters station k, so that later ones find it; of those before it all that take part are entered.
-pub fn enter_station(
-    file: &[u8],
-    codes: &mut [u8; CODES],
-    heads: &mut [u16; SLOTS],
-    nexts: &mut [u16; RECORD_NUMBERS],
-    site_heads: &mut [u16; SLOTS],
-    site_nexts: &mut [u16; RECORD_NUMBERS],
-    seconds: &mut [u16; RECORD_NUMBERS],
-    k: usize,
-)
-    requires record_length_in_bounds { record_length * k + record_length ≤ length file.now }
-    requires le_k { (1 ≤ k) × (k ≤ most_stations) }
-    requires some_entered { SomeEntered file.now codes.old heads.old nexts.old site_heads.old site_nexts.old seconds.old (k - 1) }
-    ensures { (parts : ℕ → Bool) → parts k ≡ true → Entered file.now parts codes.old heads.old nexts.old site_heads.old site_nexts.old seconds.old (k - 1)
-        → Entered file.now parts codes.new heads.new nexts.new site_heads.new site_nexts.new seconds.new k }
-{
-    enter_reference(file, heads, nexts, k);
-    enter_site(file, codes, site_heads, site_nexts, seconds, k);
+// What is kept of the stations that are entered: the chains of the first bearers of 13X, and the sites.
+#[derive(Drop)]
+pub struct EnteredStations {
+    pub references: Chain,
+    pub sites: KeptSites,
 }
 
-// Station k's row, where of those before it all that take part are entered; then it is entered too.
-pub fn station_row(
-    file: &[u8],
-    codes: &mut [u8; CODES],
-    heads: &mut [u16; SLOTS],
-    nexts: &mut [u16; RECORD_NUMBERS],
-    site_heads: &mut [u16; SLOTS],
-    site_nexts: &mut [u16; RECORD_NUMBERS],
-    seconds: &mut [u16; RECORD_NUMBERS],
-    k: usize,
-) -> [u8; ROW_WIDTH]
-    requires record_length_in_bounds { record_length * k + record_length ≤ length file.now }
-    requires le_k { (1 ≤ k) × (k ≤ most_stations) }
-    requires some_entered { SomeEntered file.now codes.old heads.old nexts.old site_heads.old site_nexts.old seconds.old (k - 1) }
-    ensures { (parts : ℕ → Bool) → parts k ≡ true → Entered file.now parts codes.old heads.old nexts.old site_heads.old site_nexts.old seconds.old (k - 1)
-        → (result ≡ row_of file.now k) × Entered file.now parts codes.new heads.new nexts.new site_heads.new site_nexts.new seconds.new k }
-{
-    let own = kept_code(file, codes, k);
-    let twin = enter_reference(file, heads, nexts, k);
-    let elsewhere = enter_site(file, codes, site_heads, site_nexts, seconds, k);
-    row_bytes(own, twin, own_clash(own, elsewhere))
+impl EnteredStations {
+    // What is kept before any station is entered.
+    pub fn new() -> EnteredStations
+        ensures { (file : List ℕ) (parts : ℕ → Bool) → ((i j : ℕ) → site_at file i ≡ site_at file j → parts i ≡ parts j) → Entered file parts result.references result.sites 0 }
+    {
+        EnteredStations {
+            references: Chain::new(),
+            sites: KeptSites::new(),
+        }
+    }
+
+    // Enters station k, so that later ones find it; of those before it all that take part are entered.
+    pub fn enter_station(&mut self, file: &[u8], k: usize)
+        requires has_record { HasRecord file.now k }
+        requires le_k { (1 ≤ k) × (k ≤ most_stations) }
+        requires some_entered { SomeEntered file.now self.old.references self.old.sites (k - 1) }
+        ensures { (parts : ℕ → Bool) → parts k ≡ true → Entered file.now parts self.old.references self.old.sites (k - 1)
+            → Entered file.now parts self.new.references self.new.sites k }
+    {
+        enter_reference(file, &mut self.references, k);
+        enter_site(file, &mut self.sites, k);
+    }
+
+    // Station k's row, where of those before it all that take part are entered; then it is entered too.
+    pub fn station_row(&mut self, file: &[u8], k: usize) -> [u8; ROW_WIDTH]
+        requires has_record { HasRecord file.now k }
+        requires le_k { (1 ≤ k) × (k ≤ most_stations) }
+        requires some_entered { SomeEntered file.now self.old.references self.old.sites (k - 1) }
+        ensures { (parts : ℕ → Bool) → parts k ≡ true → Entered file.now parts self.old.references self.old.sites (k - 1)
+            → (result ≡ row_of file.now k) × Entered file.now parts self.new.references self.new.sites k }
+    {
+        let own = self.sites.kept_code(file, k);
+        let twin = enter_reference(file, &mut self.references, k);
+        let elsewhere = enter_site(file, &mut self.sites, k);
+        row_bytes(own, twin, own_clash(own, elsewhere))
+    }
 }

@@ -1,15 +1,16 @@
 -- What is read of station number k of a file.
-use Rattle.std.specs.Prelude.{ℕ, List, take, drop}
+use Rattle.std.specs.Prelude.{ℕ, List, take, drop, Option, Result}
 use Rattle.frequencies.specs.Frequencies.{frequency_of}
 use Rattle.distances.specs.Distances.{ground_of}
 use Rattle.positions.specs.Positions.{located_of}
 use Rattle.frequencies.specs.declared.Frequency.{Frequency}
 use Rattle.distances.specs.declared.Metres.{Metres}
-use Rattle.positions.specs.declared.Located.{Located}
 use Rattle.basics.specs.Fields.{at}
 use Rattle.station.specs.Places.{fields_of}
 use Rattle.station.specs.Codes.{station_code}
 use Rattle.files.specs.Files.{record_at}
+use Rattle.flaws.specs.declared.Flaw.{Flaw}
+use Rattle.positions.specs.declared.Position.{Position}
 
 -- Its code,
 unfoldable pub code_at : List ℕ → ℕ → ℕ
@@ -32,7 +33,7 @@ unfoldable pub site_at : List ℕ → ℕ → List ℕ
 site_at file k = take 6 (drop 5 (reference_at file k))
 
 -- its position, 4C,
-unfoldable pub position_at : List ℕ → ℕ → Located
+unfoldable pub position_at : List ℕ → ℕ → Result Position Flaw
 position_at file k = located_of (field_of file k 11)
 
 -- its height above ground, 9Y,
@@ -40,5 +41,5 @@ unfoldable pub ground_at : List ℕ → ℕ → Metres
 ground_at file k = ground_of (field_of file k 21)
 
 -- and its transmit frequency, 1A with its unit.
-unfoldable pub transmit_at : List ℕ → ℕ → Frequency
+unfoldable pub transmit_at : List ℕ → ℕ → Option Frequency
 transmit_at file k = frequency_of (field_of file k 1) (field_of file k 2)

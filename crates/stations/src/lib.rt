@@ -1,20 +1,21 @@
 // What the calls on whole files read of a station, where its record is wholly there.
 #![tactic(auto)]
 
-ghost use Rattle.std.specs.Prelude.{◌≡◌, ◌+◌, ◌*◌, ◌≤◌, length};
-ghost use Rattle.basics.specs.Fields.{record_length};
+ghost use Rattle.std.specs.Prelude.{◌≡◌};
+ghost use Rattle.files.specs.Files.{HasRecord};
 ghost use Rattle.stations.specs.Stations.{code_at, reference_at, operator_at, site_at, position_at, ground_at, transmit_at};
 
 use distances::{Metres, read_ground};
 use files::lengths::whole_record;
+use flaws::Flaw;
 use frequencies::Frequency;
 use frequency_values::frequency_in;
 use judging::station_code;
-use positions::{Located, read_position};
+use positions::{Position, read_position};
 
 // Station k's code.
 pub fn code(file: &[u8], k: usize) -> u8
-    requires { record_length * k + record_length ≤ length file.now }
+    requires { HasRecord file.now k }
     ensures { result ≡ code_at file.now k }
 {
     station_code(whole_record(file, k))
@@ -22,7 +23,7 @@ pub fn code(file: &[u8], k: usize) -> u8
 
 // Its 13X, as a part of the file itself.
 pub fn reference(file: &[u8], k: usize) -> &[u8]
-    requires { record_length * k + record_length ≤ length file.now }
+    requires { HasRecord file.now k }
     ensures { result.now ≡ reference_at file.now k }
 {
     let rec = whole_record(file, k);
@@ -31,7 +32,7 @@ pub fn reference(file: &[u8], k: usize) -> &[u8]
 
 // The operator's code in it.
 pub fn operator(file: &[u8], k: usize) -> &[u8]
-    requires { record_length * k + record_length ≤ length file.now }
+    requires { HasRecord file.now k }
     ensures { result.now ≡ operator_at file.now k }
 {
     let mine = reference(file, k);
@@ -40,7 +41,7 @@ pub fn operator(file: &[u8], k: usize) -> &[u8]
 
 // Operator and site in it.
 pub fn site(file: &[u8], k: usize) -> &[u8]
-    requires { record_length * k + record_length ≤ length file.now }
+    requires { HasRecord file.now k }
     ensures { result.now ≡ site_at file.now k }
 {
     let mine = reference(file, k);
@@ -48,8 +49,8 @@ pub fn site(file: &[u8], k: usize) -> &[u8]
 }
 
 // Its position, 4C, or that it says none.
-pub fn position(file: &[u8], k: usize) -> Located
-    requires { record_length * k + record_length ≤ length file.now }
+pub fn position(file: &[u8], k: usize) -> Result<Position, Flaw>
+    requires { HasRecord file.now k }
     ensures { result ≡ position_at file.now k }
 {
     let rec = whole_record(file, k);
@@ -58,7 +59,7 @@ pub fn position(file: &[u8], k: usize) -> Located
 
 // The height of its antenna above ground, 9Y.
 pub fn ground(file: &[u8], k: usize) -> Metres
-    requires { record_length * k + record_length ≤ length file.now }
+    requires { HasRecord file.now k }
     ensures { result ≡ ground_at file.now k }
 {
     let rec = whole_record(file, k);
@@ -66,8 +67,8 @@ pub fn ground(file: &[u8], k: usize) -> Metres
 }
 
 // Its transmit frequency, 1A with its unit, where it breaks no rule.
-pub fn transmit(file: &[u8], k: usize) -> Frequency
-    requires { (record_length * k + record_length ≤ length file.now) × (code_at file.now k ≡ 0) }
+pub fn transmit(file: &[u8], k: usize) -> Option<Frequency>
+    requires { HasRecord file.now k × (code_at file.now k ≡ 0) }
     ensures { result ≡ transmit_at file.now k }
 {
     let rec = whole_record(file, k);

@@ -5,8 +5,6 @@ mod bounds;
 mod rules;
 mod words;
 
-ghost use Rattle.std.specs.Prelude.{◌<◌, ◌≤◌, length};
-
 use crate::bounds::print_bounds;
 use crate::rules::print_rows;
 use crate::words::{print_kind, print_name, print_unit};
@@ -33,31 +31,22 @@ fn print_blank(allowed: usize) {
     io::write_all(1, b" | never blank |\n");
 }
 
-// The line of entry i.
-fn print_entry(entries: &[[usize; 6]], i: usize)
-    requires { i < length entries.now }
-{
-    let first = entries[i][0];
-    let n = entries[i][1];
-    let kind = entries[i][2];
-    let low = entries[i][3];
-    let high = entries[i][4];
-    let allowed = entries[i][5];
-    print_place(i + 1, first, n);
+// The line of the entry of field number k.
+fn print_entry(entry: &[usize; 6], k: usize) {
+    let [first, n, kind, low, high, allowed] = *entry;
+    print_place(k, first, n);
     io::write_all(1, b" | ");
     print_kind(kind);
     io::write_all(1, b" | ");
     print_bounds(kind, low, high);
-    print_unit(i + 1);
+    print_unit(k);
     print_blank(allowed);
 }
 
 // All lines.
 fn print_entries(entries: &[[usize; 6]]) {
-    let mut i: usize = 0;
-    while i < entries.len() {
-        print_entry(entries, i);
-        i += 1;
+    for (i, entry) in entries.iter().enumerate() {
+        print_entry(entry, i + 1);
     }
 }
 

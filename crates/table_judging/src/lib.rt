@@ -15,13 +15,11 @@ fn first_flaw(entries: &[[usize; 6]], rows: &[[usize; 7]], rec: &[u8]) -> Found
     ensures { (result.code ≡ first_broken 1 (flawless_all (flaws_by entries.now rec.now rows.now)))
         × (result.flaw ≡ flaw_with (flaws_by entries.now rec.now rows.now) result.code) }
 {
-    let mut i: usize = 0;
-    while i < entries.len() {
+    for i in 0..entries.len() {
         let flaw = flaw_behind(entries, rows, rec, i);
         if !is_flawless(flaw) {
             return Found { code: 1 + i, flaw };
         }
-        i += 1;
     }
     Found {
         code: 0,

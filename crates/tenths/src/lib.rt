@@ -9,7 +9,6 @@ ghost use Rattle.fields.specs.Table.{range_of};
 use columns::texts::write_blank;
 use formats::{Format, Tenths, fits_decimal, put_format, read_decimal};
 use numeral_writing::magnitude;
-use numerals::Signed;
 
 // Whether a number is in its field's range: an azimuth up to 359.9 degrees, an elevation up to 90.0 either way.
 pub fn in_range(format: Format, v: i64) -> bool
@@ -29,9 +28,9 @@ pub fn is_tenths(format: Format, s: &[u8]) -> bool
     ensures { result ≡ tenths_good (digits_before format) (digits_after format) (may_sign format) (range_of format) s.now }
 {
     match read_decimal(format, s) {
-        Signed::Bad(_) => false,
-        Signed::Blank => true,
-        Signed::Filled(v) => in_range(format, v),
+        Ok(Some(v)) => in_range(format, v),
+        Ok(None) => true,
+        Err(_) => false,
     }
 }
 
@@ -39,11 +38,7 @@ pub fn is_tenths(format: Format, s: &[u8]) -> bool
 pub fn read_tenths(format: Format, s: &[u8]) -> Tenths
     ensures { result ≡ tenths_of (digits_before format) (digits_after format) (may_sign format) s.now }
 {
-    match read_decimal(format, s) {
-        Signed::Bad(_) => Tenths::Blank,
-        Signed::Blank => Tenths::Blank,
-        Signed::Filled(v) => Tenths::Filled(v),
-    }
+    read_decimal(format, s).unwrap_or(None)
 }
 
 // Whether a value or its absence can stand in its field.
@@ -51,8 +46,8 @@ pub fn fits_tenths(format: Format, v: Tenths) -> bool
     ensures { result ≡ tenths_fit (digits_before format) (digits_after format) (may_sign format) (range_of format) v }
 {
     match v {
-        Tenths::Blank => true,
-        Tenths::Filled(z) => {
+        None => true,
+        Some(z) => {
             if !fits_decimal(format, z) {
                 return false;
             }
@@ -67,7 +62,7 @@ pub fn put_tenths(format: Format, s: &mut [u8], v: Tenths)
     ensures { s.new ≡ spell_tenths (digits_before format) (digits_after format) (may_sign format) v }
 {
     match v {
-        Tenths::Blank => write_blank(s),
-        Tenths::Filled(z) => put_format(format, s, z),
+        None => write_blank(s),
+        Some(z) => put_format(format, s, z),
     }
 }

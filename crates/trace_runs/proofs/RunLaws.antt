@@ -1,4 +1,5 @@
 -- Saves run one after the other from a list and the sheet judged from it: what each leaves, and whether it is accepted.
+use Rattle.std.specs.Prelude.{Ok, Err, Result}
 use mathlib.Core.Path.{◌≡◌, refl, sym, ap, ◌∙◌}
 use mathlib.Core.Bool.{Bool, true, false, cond, not}
 use mathlib.Core.List.{List, [], ◌∷◌, ◌++◌}
@@ -10,9 +11,8 @@ use native.Mathlib.Numerals.{add-one}
 use borrow.Author.Tests.{eq-eqb}
 use Rattle.numerals.specs.Numbers.{whole_of, amount}
 use Rattle.basics.specs.Fields.{record_length}
-use Rattle.basics.specs.Outcomes.{refusal, first_refusal, record_test}
-use Rattle.basics.specs.declared.Outcome.{Outcome}
-use Rattle.basics.specs.declared.Outcome.TheVariants as outcome
+use Rattle.basics.specs.Outcomes.{refusal, first_refusal, record_test, Outcome, ends}
+use Rattle.basics.specs.declared.Refusal.TheVariants as why
 use Rattle.basics.proofs.RefusalLaws.{done, asked-on, NoneApplies}
 use Rattle.files.specs.Files.{stations}
 use Rattle.files.specs.Calls.{file_tests, number_test}
@@ -20,7 +20,7 @@ use Rattle.forms.specs.Counting.{count}
 use Rattle.sheet.specs.Sheets.{sheet_of}
 use Rattle.replacing.specs.Calls.{replace_outcome, replaced_file, replaced_sheet, after_all}
 use Rattle.replacing.specs.Promises.{RecordReplaced}
-use Rattle.replacing.specs.declared.records.Replaced.{Replaced}
+use Rattle.basics.specs.declared.Refusal.{Refusal}
 use Rattle.replacing.proofs.Demand3.{after_any_run}
 use Rattle.replacing.proofs.EitherOrder.{judged_end, judged_end_lem, taken, taken_by_length}
 use Rattle.replacing.proofs.AnyOrder.{Call, run_keeps_length}
@@ -54,7 +54,7 @@ unfolding first_refusal refusal
 taken_at file k r fine size =
     ap done (asked-on (file_tests file) (number_test file k ∷ record_test r ∷ []) fine) ∙ rw (eq-eqb (length r) record_length size) (by (ltb (stations file) k))
   where
-    by : (b : Bool) → done (cond b outcome.NoSuchRecord outcome.Done) ≡ not b
+    by : (b : Bool) → done (cond b (Err why.NoSuchRecord) (Ok tt)) ≡ not b
     by true = refl
     by false = refl
 
@@ -75,13 +75,13 @@ module _ (file : List ℕ) (fine : NoneApplies (file_tests file)) (calls : List 
       ∙ taken_at file k r fine size
 
 -- A replacement of the record that a save has, by the save's number.
-pub as_saved : (file sheet : List ℕ) {f s r : List ℕ} {k : ℕ} {answer : Replaced} (save : List ℕ) → k ≡ amount (whole_of (take saved_digits save)) → r ≡ drop saved_digits save
+pub as_saved : (file sheet : List ℕ) {f s r : List ℕ} {k : ℕ} (answer : Result ℕ Refusal) (save : List ℕ) → k ≡ amount (whole_of (take saved_digits save)) → r ≡ drop saved_digits save
     → RecordReplaced file sheet k r answer f s
-    → (done answer.outcome ≡ done (replace_outcome file sheet (saved_number save) (saved_record save)))
+    → (done (ends answer) ≡ done (replace_outcome file sheet (saved_number save) (saved_record save)))
     × (f ≡ replaced_file file sheet (saved_number save) (saved_record save))
     × (s ≡ replaced_sheet file sheet (saved_number save) (saved_record save))
 unfolding saved_number saved_record
-as_saved file sheet save ek er h = rw (← ek, ← er) (ap done h.0, h.2, h.3)
+as_saved file sheet answer save ek er h = rw (← ek, ← er) (ap done h.0, h.2, h.3)
 
 -- It is told as 1 where it is taken, and as 0 where not.
 pub told_taken : {b c d : Bool} → c ≡ b → d ≡ c → d ≡ true → ◌≡◌ {A = ℕ} 1 (cond b 1 0)

@@ -31,13 +31,10 @@ fn lowest_bad(sheet: &[u8], n: usize) -> u16
     requires { (n ≤ most_stations) × (row_width * n ≤ length sheet.now) }
     ensures { result ≡ first (bad sheet.now) n }
 {
-    let mut i = 0;
-    while i < n {
-        let k = i + 1;
+    for i in 0..n {
         if bad_row(sheet, i) {
-            return k as u16;
+            return (i + 1) as u16;
         }
-        i = k;
     }
     0
 }
@@ -47,13 +44,11 @@ fn bad_rows(sheet: &[u8], n: usize) -> u16
     requires { (n ≤ most_stations) × (row_width * n ≤ length sheet.now) }
     ensures { result ≡ count (bad sheet.now) n }
 {
-    let mut found: u16 = 0;
-    let mut i = 0;
-    while i < n {
+    let mut found = 0;
+    for i in 0..n {
         if bad_row(sheet, i) {
             found += 1;
         }
-        i += 1;
     }
     found
 }

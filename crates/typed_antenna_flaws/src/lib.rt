@@ -18,16 +18,12 @@ pub fn typed_antenna_flaw(s: Antenna, code: u8) -> Flaw
     requires { 19 ≤ code }
     ensures { result ≡ get_or (antenna_flaws s) (code - 19) flaw.Between }
 {
-    let polarisation = s.polarisation;
-    let gain = s.gain;
-    let horizontal = s.horizontal;
-    let vertical = s.vertical;
     match code {
-        19 => polarisation_flaw(&polarisation),
-        20 => range_flaw(fits_tenths(Format::Gain, gain)),
+        19 => polarisation_flaw(&s.polarisation),
+        20 => range_flaw(fits_tenths(Format::Gain, s.gain)),
         21 => range_flaw(fits_ground(s.ground)),
-        22 => antenna_flaw(&horizontal),
-        23 => antenna_flaw(&vertical),
+        22 => antenna_flaw(&s.horizontal),
+        23 => antenna_flaw(&s.vertical),
         _ => Flaw::Between,
     }
 }

@@ -17,17 +17,13 @@ pub fn typed_channel_flaw(s: Channel, code: u8) -> Flaw
     requires { 1 ≤ code }
     ensures { result ≡ get_or (channel_flaws s) (code - 1) flaw.Between }
 {
-    let transmit = s.transmit;
-    let class = s.class;
-    let service = s.service;
-    let users = s.users;
     match code {
-        1 => range_flaw(fits_frequency(transmit)),
+        1 => range_flaw(fits_frequency(s.transmit)),
         2 => Flaw::None,
         3 => byte_flaw(is_category(s.category)),
-        4 => class_flaw(&class),
-        5 => service_flaw(&service),
-        6 => users_flaw(&users),
+        4 => class_flaw(&s.class),
+        5 => service_flaw(&s.service),
+        6 => users_flaw(&s.users),
         7 => byte_flaw(is_carrier(s.carrier)),
         _ => Flaw::Between,
     }

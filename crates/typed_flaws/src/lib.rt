@@ -37,17 +37,13 @@ fn typed_site_flaw(s: Site, code: u8) -> Flaw
     requires { 8 ≤ code }
     ensures { result ≡ get_or (site_flaws s) (code - 8) flaw.Between }
 {
-    let started = s.started;
-    let name = s.name;
-    let country = s.country;
-    let height = s.height;
     match code {
-        8 => range_flaw(fits_day(started)),
-        9 => name_flaw(&name),
-        10 => country_flaw(&country),
+        8 => range_flaw(fits_day(s.started)),
+        9 => name_flaw(&s.name),
+        10 => country_flaw(&s.country),
         11 => range_flaw(fits_position(s.position)),
         12 => range_flaw(fits_radius(s.radius)),
-        13 => range_flaw(fits_height(height)),
+        13 => range_flaw(fits_height(s.height)),
         _ => Flaw::Between,
     }
 }
@@ -57,16 +53,12 @@ fn typed_emission_flaw(s: Emission, code: u8) -> Flaw
     requires { 14 ≤ code }
     ensures { result ≡ get_or (emission_flaws s) (code - 14) flaw.Between }
 {
-    let designation = s.designation;
-    let power = s.power;
-    let azimuth = s.azimuth;
-    let elevation = s.elevation;
     match code {
-        14 => emission_flaw(&designation),
-        15 => range_flaw(fits_tenths(Format::Power, power)),
+        14 => emission_flaw(&s.designation),
+        15 => range_flaw(fits_tenths(Format::Power, s.power)),
         16 => byte_flaw(is_basis(s.basis)),
-        17 => range_flaw(fits_tenths(Format::Azimuth, azimuth)),
-        18 => range_flaw(fits_tenths(Format::Elevation, elevation)),
+        17 => range_flaw(fits_tenths(Format::Azimuth, s.azimuth)),
+        18 => range_flaw(fits_tenths(Format::Elevation, s.elevation)),
         _ => Flaw::Between,
     }
 }
@@ -76,19 +68,14 @@ fn typed_coordination_flaw(s: Coordination, code: u8) -> Flaw
     requires { 24 ≤ code }
     ensures { result ≡ get_or (coordination_flaws s) (code - 24) flaw.Between }
 {
-    let receive = s.receive;
-    let remarks = s.remarks;
-    let requested = s.requested;
-    let coordinated = s.coordinated;
-    let reference = s.reference;
     match code {
-        24 => range_flaw(fits_frequency(receive)),
+        24 => range_flaw(fits_frequency(s.receive)),
         25 => Flaw::None,
-        26 => remarks_flaw(&remarks),
+        26 => remarks_flaw(&s.remarks),
         27 => byte_flaw(is_status(s.status)),
-        28 => range_flaw(fits_day(requested)),
-        29 => range_flaw(fits_day(coordinated)),
-        30 => reference_flaw(&reference),
+        28 => range_flaw(fits_day(s.requested)),
+        29 => range_flaw(fits_day(s.coordinated)),
+        30 => reference_flaw(&s.reference),
         _ => Flaw::Between,
     }
 }

@@ -24,17 +24,13 @@ use tenths::fits_tenths;
 pub fn typed_channel_code(s: Channel) -> u8
     ensures { result ≡ first_broken 1 (channel_rules s) }
 {
-    let transmit = s.transmit;
-    let class = s.class;
-    let service = s.service;
-    let users = s.users;
     let rules = [
-        fits_frequency(transmit),
+        fits_frequency(s.transmit),
         true,
         is_category(s.category),
-        is_class(&class),
-        is_service(&service),
-        is_users(&users),
+        is_class(&s.class),
+        is_service(&s.service),
+        is_users(&s.users),
         is_carrier(s.carrier),
     ];
     first_broken(&rules, 1)
@@ -44,17 +40,13 @@ pub fn typed_channel_code(s: Channel) -> u8
 pub fn typed_site_code(s: Site) -> u8
     ensures { result ≡ first_broken 8 (site_rules s) }
 {
-    let started = s.started;
-    let name = s.name;
-    let country = s.country;
-    let height = s.height;
     let rules = [
-        fits_day(started),
-        is_station_name(&name),
-        is_country(&country),
+        fits_day(s.started),
+        is_station_name(&s.name),
+        is_country(&s.country),
         fits_position(s.position),
         fits_radius(s.radius),
-        fits_height(height),
+        fits_height(s.height),
     ];
     first_broken(&rules, 8)
 }
@@ -63,16 +55,12 @@ pub fn typed_site_code(s: Site) -> u8
 pub fn typed_emission_code(s: Emission) -> u8
     ensures { result ≡ first_broken 14 (emission_rules s) }
 {
-    let designation = s.designation;
-    let power = s.power;
-    let azimuth = s.azimuth;
-    let elevation = s.elevation;
     let rules = [
-        is_emission(&designation),
-        fits_tenths(Format::Power, power),
+        is_emission(&s.designation),
+        fits_tenths(Format::Power, s.power),
         is_basis(s.basis),
-        fits_tenths(Format::Azimuth, azimuth),
-        fits_tenths(Format::Elevation, elevation),
+        fits_tenths(Format::Azimuth, s.azimuth),
+        fits_tenths(Format::Elevation, s.elevation),
     ];
     first_broken(&rules, 14)
 }
@@ -81,16 +69,12 @@ pub fn typed_emission_code(s: Emission) -> u8
 pub fn typed_antenna_code(s: Antenna) -> u8
     ensures { result ≡ first_broken 19 (antenna_rules s) }
 {
-    let polarisation = s.polarisation;
-    let gain = s.gain;
-    let horizontal = s.horizontal;
-    let vertical = s.vertical;
     let rules = [
-        is_polarisation(&polarisation),
-        fits_tenths(Format::Gain, gain),
+        is_polarisation(&s.polarisation),
+        fits_tenths(Format::Gain, s.gain),
         fits_ground(s.ground),
-        is_antenna(&horizontal),
-        is_antenna(&vertical),
+        is_antenna(&s.horizontal),
+        is_antenna(&s.vertical),
     ];
     first_broken(&rules, 19)
 }
@@ -99,19 +83,14 @@ pub fn typed_antenna_code(s: Antenna) -> u8
 pub fn typed_coordination_code(s: Coordination) -> u8
     ensures { result ≡ first_broken 24 (coordination_rules s) }
 {
-    let receive = s.receive;
-    let remarks = s.remarks;
-    let requested = s.requested;
-    let coordinated = s.coordinated;
-    let reference = s.reference;
     let rules = [
-        fits_frequency(receive),
+        fits_frequency(s.receive),
         true,
-        is_remarks(&remarks),
+        is_remarks(&s.remarks),
         is_status(s.status),
-        fits_day(requested),
-        fits_day(coordinated),
-        is_reference(&reference),
+        fits_day(s.requested),
+        fits_day(s.coordinated),
+        is_reference(&s.reference),
     ];
     first_broken(&rules, 24)
 }

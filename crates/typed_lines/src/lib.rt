@@ -3,10 +3,10 @@
 
 ghost use Rattle.lists.specs.Promises.{LineRead, LineWritten};
 
-use basics::Outcome;
+use basics::Refusal;
 use empties::empty_station;
 use filling::put_fields;
-use lists::{ReadLine, WrittenLine};
+use lists::ReadLine;
 use reading::typed::read_station;
 use spelled_lines::write_spelled;
 use splitting::lines::is_line;
@@ -20,34 +20,32 @@ pub fn read_line(line: &[u8]) -> ReadLine
 {
     if !is_line(line) {
         return ReadLine {
-            outcome: Outcome::NotALine,
+            outcome: Err(Refusal::NotALine),
             station: empty_station(),
         };
     }
     let mut rec = [b' '; 219];
     if !put_fields(line, &mut rec) {
         return ReadLine {
-            outcome: Outcome::FieldTooLong,
+            outcome: Err(Refusal::FieldTooLong),
             station: empty_station(),
         };
     }
     let read = read_station(&rec);
-    let outcome = read.outcome;
-    let station = read.station;
-    ReadLine { outcome, station }
+    ReadLine {
+        outcome: read.outcome,
+        station: read.station,
+    }
 }
 
 // Writes a station as a line; it is refused where it breaks a rule, or where the lent buffer is shorter than the line, and
 // then nothing is written.
-pub fn write_line(s: Station, buffer: &mut [u8]) -> WrittenLine
+pub fn write_line(s: Station, buffer: &mut [u8]) -> Result<usize, Refusal>
     ensures { LineWritten s buffer.old result buffer.new }
 {
     let code = typed_code(s);
     if code != 0 {
-        return WrittenLine {
-            outcome: Outcome::RuleBroken(code),
-            length: 0,
-        };
+        return Err(Refusal::RuleBroken(code));
     }
     let mut rec = [b' '; 219];
     put_station(s, &mut rec);

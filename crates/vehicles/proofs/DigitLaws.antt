@@ -2,10 +2,9 @@
 use mathlib.Core.Path.{◌≡◌, refl, sym, ap, ◌∙◌}
 use mathlib.Core.Bool.{Bool, true, false, not, ◌&&◌, ◌||◌}
 use mathlib.Core.List.{List, [], ◌∷◌, ◌++◌}
-use Prim.Native.Nat.{ℕ, zero, suc, ◌+◌, ◌-◌, ◌*◌, ◌/◌, ◌%◌, ◌≤◌, ◌<◌}
+use Prim.Native.Nat.{ℕ, zero, suc, ◌+◌, ◌*◌, ◌%◌, ◌≤◌, ◌<◌}
 use native.Mathlib.Omega.{arith}
 use native.Mathlib.Nat.{eq-or-lt_of_le}
-use native.Mathlib.Numerals.{add-one}
 use mathlib.Core.Logic.{⊎_elim}
 use lib.Dec.{eqb}
 use borrow.Author.Tests.{eq-eqb, eqb-true}
@@ -92,19 +91,6 @@ wrong_order front rest d e h k one two = by (turn_after true (length front)) (ap
       let p : (digit_sum front + (weighed true d + (e + sum_from false rest))) % 10 ≡ 0 = ap (λ (n : ℕ). (digit_sum front + n) % 10) (omega arith) ∙ y in
       let q : (digit_sum front + (weighed true e + (d + sum_from false rest))) % 10 ≡ 0 = ap (λ (n : ℕ). (digit_sum front + n) % 10) (omega arith) ∙ x in
       order_told d e (digit_sum front) (sum_from false rest) h k p q
-
--- The sum from two digits on, the first of them doubled: both, and those behind them,
-pub sum_two : (t : List ℕ) (i : ℕ) → i + 1 < length t → sum_from true (digits_of (drop i t)) ≡ weighed true (get_or t i 0 - 48) + (get_or t (i + 1) 0 - 48) + sum_from true (digits_of (drop (i + 2) t))
-unfolding sum_from
-sum_two t i h =
-    let e : i + 1 ≡ suc i = add-one i in
-    let f : i + 2 ≡ suc (suc i) = omega arith in
-    rw (drop-cons t i 0 (omega arith), drop-cons t (suc i) 0 (omega arith), e, f) (omega arith)
-
--- and where none is left.
-pub sum_none : (t : List ℕ) (i : ℕ) → length t ≤ i → sum_from true (digits_of (drop i t)) ≡ 0
-unfolding sum_from
-sum_none t i h = rw (drop_of_length-le t {i = i} h)
 
 -- The sum over twelve digits is that over eleven and the last one.
 digits_length : (t : List ℕ) → length (digits_of t) ≡ length t

@@ -1,9 +1,9 @@
 -- The promises of the calls on vehicle numbers leave one answer.
+use Rattle.basics.specs.Outcomes.{Outcome}
 use mathlib.Core.Path.{◌≡◌, sym, ◌∙◌}
 use mathlib.Core.List.{List}
 use Prim.Native.Nat.{ℕ}
 use denote.Ref.{Bor}
-use Rattle.basics.specs.declared.Outcome.{Outcome}
 use Rattle.vehicles.specs.Promises.{NumberChecked, NumberFound}
 
 -- Two answers of `check_number` to one text are equal,

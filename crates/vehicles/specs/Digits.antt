@@ -1,9 +1,9 @@
 -- Document 02, wish 6: a UIC vehicle number, and what its last digit has to be.
-use Rattle.std.specs.Prelude.{ℕ, ◌+◌, ◌-◌, ◌*◌, ◌/◌, ◌%◌, Bool, true, false, not, ◌&&◌, List, [], ◌∷◌, take, get_or, eqb}
+use Rattle.std.specs.Prelude.{ℕ, ◌+◌, ◌-◌, ◌*◌, ◌/◌, ◌%◌, Bool, true, false, not, ◌&&◌, List, [], ◌∷◌, take, get_or, eqb, Err}
 use Rattle.columns.specs.Sets.{is_digit}
 use Rattle.columns.specs.Texts.{every, sized}
 use Rattle.basics.specs.Outcomes.{Test, when}
-use Rattle.basics.specs.declared.Outcome.TheVariants as outcome
+use Rattle.basics.specs.declared.Refusal.TheVariants as why
 
 -- How many digits a vehicle number has.
 abbrev pub number_digits : ℕ
@@ -38,4 +38,4 @@ last_right t = let ds = digits_of t in eqb ((digit_sum (take (number_digits - 1)
 
 -- What is asked of a number: 14 where it has not twelve digits, 15 where its last one is wrong.
 abbrev pub number_tests : List ℕ → List Test
-number_tests t = when (not (is_number t)) outcome.NotTwelveDigits ∷ when (not (last_right t)) outcome.LastDigitWrong ∷ []
+number_tests t = when (not (is_number t)) (Err why.NotTwelveDigits) ∷ when (not (last_right t)) (Err why.LastDigitWrong) ∷ []

@@ -1,6 +1,6 @@
 -- Document 02, wish 6: the name of a station on a carriage, and the vehicle number in it.
-use Rattle.std.specs.Prelude.{ℕ, ◌+◌, Bool, cond, ◌&&◌, List, [], ◌++◌, length, take, drop}
-use Rattle.columns.specs.Texts.{bytes, same, sized}
+use Rattle.std.specs.Prelude.{ℕ, Bool, cond, ◌&&◌, List, [], ◌++◌, length, take, drop}
+use Rattle.columns.specs.Texts.{bytes, same}
 use Rattle.vehicles.specs.Digits.{number_digits, is_number, last_right}
 
 -- What stands before the number, and behind it up to the twentieth byte.

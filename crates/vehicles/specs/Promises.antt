@@ -2,8 +2,7 @@
 use Rattle.std.specs.Prelude.{ℕ, ◌≡◌, List}
 use Rattle.std.specs.Borrow.{Bor}
 use Rattle.basics.specs.Pieces.{StandsAt}
-use Rattle.basics.specs.Outcomes.{first_refusal}
-use Rattle.basics.specs.declared.Outcome.{Outcome}
+use Rattle.basics.specs.Outcomes.{first_refusal, Outcome}
 use Rattle.vehicles.specs.Digits.{number_tests}
 use Rattle.vehicles.specs.Names.{number_in, number_offset}
 

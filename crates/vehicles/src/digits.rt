@@ -3,7 +3,7 @@ ghost use Rattle.std.specs.Prelude.{◌≡◌, true, ◌-◌, ◌<◌, length};
 ghost use Rattle.vehicles.specs.Digits.{number_digits, weighed, digit_sum, digits_of, is_number, last_right};
 ghost use Rattle.vehicles.specs.Promises.{NumberChecked};
 
-use basics::Outcome;
+use basics::Refusal;
 use columns::sets::Set;
 use columns::texts::all_in;
 
@@ -14,10 +14,7 @@ const NUMBER_DIGITS: usize = 12;
 fn digit(c: u8) -> usize
     ensures { (result ≡ c - 48) × (result < 256) }
 {
-    if c < b'0' {
-        return 0;
-    }
-    (c - b'0') as usize
+    usize::from(c.saturating_sub(b'0'))
 }
 
 // The digits of twice a digit, added up.
@@ -44,13 +41,11 @@ fn digit_sum(number: &[u8]) -> usize
     requires { length number.now ≡ number_digits }
     ensures { result ≡ digit_sum (digits_of number.now) }
 {
-    let mut sum: usize = 0;
-    let mut i: usize = 0;
-    while i < NUMBER_DIGITS {
-        let first = doubled(digit(number[i]));
-        let second = digit(number[i + 1]);
+    let mut sum = 0;
+    for pair in number.chunks_exact(2) {
+        let first = doubled(digit(pair[0]));
+        let second = digit(pair[1]);
         sum += first + second;
-        i += 2;
     }
     sum
 }
@@ -64,14 +59,14 @@ pub fn is_last_right(number: &[u8]) -> bool
 }
 
 // Whether a text is a vehicle number: 14, 15, or done.
-pub fn check_number(number: &[u8]) -> Outcome
+pub fn check_number(number: &[u8]) -> Result<(), Refusal>
     ensures { NumberChecked number.now result }
 {
     if !is_number(number) {
-        return Outcome::NotTwelveDigits;
+        return Err(Refusal::NotTwelveDigits);
     }
     if !is_last_right(number) {
-        return Outcome::LastDigitWrong;
+        return Err(Refusal::LastDigitWrong);
     }
-    Outcome::Done
+    Ok(())
 }

@@ -1,13 +1,12 @@
 -- How verifying ends, and what it finds.
+use Rattle.std.specs.Prelude.{Ok}
 use mathlib.Core.Path.{◌≡◌, sym, ◌∙◌}
 use mathlib.Core.Bool.{true, false}
 use mathlib.Core.List.{List}
 use Prim.Native.Nat.{ℕ}
 use lib.ListN.{length}
 use borrow.Author.Tests.{eq-eqb, ne_eqb}
-use Rattle.basics.specs.Outcomes.{if_done}
-use Rattle.basics.specs.declared.Outcome.{Outcome}
-use Rattle.basics.specs.declared.Outcome.TheVariants as outcome
+use Rattle.basics.specs.Outcomes.{if_done, Outcome}
 use Rattle.basics.proofs.RefusalLaws.{done, done_is}
 use Rattle.sheet.specs.Sheets.{sheet_of}
 use Rattle.sheet.specs.Calls.{judge_outcome}
@@ -24,11 +23,11 @@ module _ (file sheet : List ℕ) where
 
   -- one that is done a sheet that is right to its end,
   module _ {right : ℕ} (t : done (judge_outcome file sheet) ≡ true) (e : right ≡ alike (sheet_of file) sheet) where
-    pub verify_right : right ≡ length sheet → SheetVerified file sheet (record { outcome = outcome.Done; finding = finding.Right })
+    pub verify_right : right ≡ length sheet → SheetVerified file sheet (record { outcome = Ok tt; finding = finding.Right })
     unfolding finding_of if_done compared
     verify_right r = (sym (done_is (judge_outcome file sheet) t), sym (rw (t, ← e, eq-eqb right (length sheet) r)))
 
     -- or the first byte that is wrong.
-    pub verify_wrong : (right ≡ length sheet → ⊥) → SheetVerified file sheet (record { outcome = outcome.Done; finding = finding.WrongAt right })
+    pub verify_wrong : (right ≡ length sheet → ⊥) → SheetVerified file sheet (record { outcome = Ok tt; finding = finding.WrongAt right })
     unfolding finding_of if_done compared
     verify_wrong r = (sym (done_is (judge_outcome file sheet) t), sym (rw (t, ← e, ne_eqb right (length sheet) r)))

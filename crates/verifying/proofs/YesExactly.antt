@@ -1,5 +1,6 @@
 -- What verifying finds is so: a yes exactly for the sheet that the file is judged to, else the first wrong byte, and a yes for every
 -- sheet that was judged and then mended.
+use Rattle.std.specs.Prelude.{Ok, Err}
 use mathlib.Core.Path.{◌≡◌, refl, sym, ap, ◌∙◌, subst}
 use mathlib.Core.Bool.{Bool, true, false, cond, not}
 use mathlib.Core.List.{List, [], ◌∷◌}
@@ -11,16 +12,16 @@ use lib.Seq.{take_all}
 use borrow.Author.Tests.{eq-eqb, eqb-true, eqb-false}
 use Rattle.columns.specs.Texts.{sized}
 use Rattle.basics.specs.Outcomes.{refusal, when, first_refusal}
-use Rattle.basics.specs.declared.Outcome.TheVariants as outcome
+use Rattle.basics.specs.declared.Refusal.TheVariants as why
 use Rattle.basics.proofs.RefusalLaws.{done, done_is, if_done_lem, if_refused, passes, none_left, asked-on}
 use Rattle.files.specs.Files.{stations, too_long, not_records}
 use Rattle.files.specs.Calls.{file_tests}
 use Rattle.files.proofs.LengthLaws.{length_passed}
 use Rattle.forms.specs.OwnForm.{sheet_length}
 use Rattle.sheet.specs.Sheets.{judged_sheet, sheet_of}
-use Rattle.sheet.specs.Calls.{judge_outcome, judged_into}
+use Rattle.sheet.specs.Calls.{judge_outcome}
 use Rattle.sheet.proofs.SheetLaws.{judged-length}
-use Rattle.sheet.proofs.JudgeLaws.{judge_passed, judge_sized_up}
+use Rattle.sheet.proofs.JudgeLaws.{judge_sized_up}
 use Rattle.replacing.specs.Calls.{after_all}
 use Rattle.replacing.proofs.Demand3.{after_any_run}
 use Rattle.replacing.proofs.AnyOrder.{Call, run_keeps_length}
@@ -86,11 +87,11 @@ module _ (file sheet : List ℕ) where
   one_length t = (judge_sized_up file sheet t).sheet_size ∙ sym (judged-length file (stations file))
 
   -- A yes is said of the sheet that the file is judged to alone,
-  pub yes_is_judged : finding_of file sheet ≡ finding.Right → (judge_outcome file sheet ≡ outcome.Done) × (sheet ≡ sheet_of file)
+  pub yes_is_judged : finding_of file sheet ≡ finding.Right → (judge_outcome file sheet ≡ Ok tt) × (sheet ≡ sheet_of file)
   unfolding kind
   yes_is_judged q = by (done (judge_outcome file sheet)) refl
     where
-      by : (b : Bool) → done (judge_outcome file sheet) ≡ b → (judge_outcome file sheet ≡ outcome.Done) × (sheet ≡ sheet_of file)
+      by : (b : Bool) → done (judge_outcome file sheet) ≡ b → (judge_outcome file sheet ≡ Ok tt) × (sheet ≡ sheet_of file)
       by true t = (done_is (judge_outcome file sheet) t, right_compared (sheet_of file) sheet (one_length t) (sym (found t) ∙ q))
       by false t = let k : ◌≡◌ {A = ℕ} 0 1 = ap kind (sym (found_nothing t) ∙ q) in absurd (omega (arith, k))
 
@@ -104,11 +105,11 @@ module _ (file sheet : List ℕ) where
       by false t = let k : ◌≡◌ {A = ℕ} 0 2 = ap kind (sym (found_nothing t) ∙ q) in absurd (omega (arith, k))
 
 -- a file that is taken is judged into a sheet of its length
-taken-judged : (file : List ℕ) → done (first_refusal (file_tests file)) ≡ true → judge_outcome file (sheet_of file) ≡ outcome.Done
+taken-judged : (file : List ℕ) → done (first_refusal (file_tests file)) ≡ true → judge_outcome file (sheet_of file) ≡ Ok tt
 unfolding judge_outcome sheet_of
 taken-judged file t =
-    asked-on (file_tests file) (when (not (sized (sheet_length (stations file)) (judged_sheet file (stations file)))) outcome.SheetLength ∷ []) (length_passed file t)
-    ∙ passes outcome.SheetLength [] (rw (eq-eqb _ _ (judged-length file (stations file))))
+    asked-on (file_tests file) (when (not (sized (sheet_length (stations file)) (judged_sheet file (stations file)))) (Err why.SheetLength) ∷ []) (length_passed file t)
+    ∙ passes (Err why.SheetLength) [] (rw (eq-eqb _ _ (judged-length file (stations file))))
     ∙ none_left
 
 -- Every file that is taken gets a yes for the sheet that it is judged to,

@@ -2,8 +2,7 @@
 ghost use Rattle.verifying.specs.Promises.{SheetVerified};
 
 use crate::comparing::right_in_sheet;
-use basics::Outcome;
-use basics::outcomes::is_done;
+use basics::Refusal;
 use files::lengths::stations_in;
 use sheet_judging::judge_outcome;
 
@@ -18,7 +17,7 @@ pub enum Finding {
 // How verifying ended, and what it found.
 #[derive(Clone, Copy)]
 pub struct Verified {
-    pub outcome: Outcome,
+    pub outcome: Result<(), Refusal>,
     pub finding: Finding,
 }
 
@@ -27,7 +26,7 @@ pub fn verify(file: &[u8], sheet: &[u8]) -> Verified
     ensures { SheetVerified file.now sheet.now result }
 {
     let outcome = judge_outcome(file, sheet);
-    if !is_done(outcome) {
+    if outcome.is_err() {
         return Verified {
             outcome,
             finding: Finding::Refused,
@@ -37,12 +36,12 @@ pub fn verify(file: &[u8], sheet: &[u8]) -> Verified
     let right = right_in_sheet(file, sheet, n);
     if right == sheet.len() {
         return Verified {
-            outcome: Outcome::Done,
+            outcome: Ok(()),
             finding: Finding::Right,
         };
     }
     Verified {
-        outcome: Outcome::Done,
+        outcome: Ok(()),
         finding: Finding::WrongAt(right),
     }
 }

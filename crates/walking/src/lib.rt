@@ -85,12 +85,10 @@ pub fn first_row(
 ) -> usize
     ensures { result ≡ first_row entries.now rec.now low high rows.now }
 {
-    let mut j: usize = 0;
-    while j < rows.len() {
+    for (j, row) in rows.iter().enumerate() {
         if !is_kept(entries, rows, rec, low, high, j) {
-            return rows[j][0];
+            return row[0];
         }
-        j += 1;
     }
     0
 }

@@ -1,6 +1,7 @@
 -- Document 02, wish 7: what people read of fields and flaws.
-use Rattle.std.specs.Prelude.{ℕ, zero, suc, List, []}
-use Rattle.columns.specs.Texts.{bytes}
+use Rattle.std.specs.Prelude.{ℕ, zero, suc, Bool, true, false, ◌&&◌, List, [], ◌∷◌, length, leb}
+use Rattle.std.specs.Borrow.{Bor}
+use Rattle.columns.specs.Texts.{bytes, same}
 use Rattle.fields.specs.Rows.{Row, row_behind}
 use Rattle.fields.specs.Table.{station_table}
 use Rattle.flaws.specs.declared.Flaw.{Flaw}
@@ -18,3 +19,9 @@ flaw_words flaw.Between = bytes " between fields"
 unfoldable pub name_at : ℕ → List ℕ
 name_at zero = []
 name_at (suc i) = bytes (row_behind station_table i).name
+
+-- Texts are the names of a table's rows, each of at most ten bytes.
+abbrev pub named : List (Bor (List ℕ)) → List Row → Bool
+named names [] = true
+named [] (r ∷ rs) = false
+named (n ∷ names) (r ∷ rs) = same n.now (bytes r.name) && (leb (length n.now) 10 && named names rs)

@@ -11,7 +11,7 @@ pub fn wide_byte(s: &[u8], at: usize) -> u64
     ensures value { result ≡ get_or s.now at 0 }
     ensures upper_bound { result < 256 }
 {
-    s[at] as u64
+    u64::from(s[at])
 }
 
 // Eight bytes from a place on as one number, low byte first; compiled, it is one load.

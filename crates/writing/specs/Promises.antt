@@ -1,6 +1,6 @@
 -- What writing a station promises, as a relation between what it is given, its answer and what it leaves in the lent bytes.
+use Rattle.basics.specs.Outcomes.{Outcome}
 use Rattle.std.specs.Prelude.{ℕ, ◌≡◌, List}
-use Rattle.basics.specs.declared.Outcome.{Outcome}
 use Rattle.station.specs.Calls.{write_outcome, written_station}
 use Rattle.station.specs.declared.Station.{Station}
 

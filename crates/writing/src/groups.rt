@@ -15,12 +15,9 @@ fn put_use(g: Channel, s: &mut [u8])
     requires { length s.old ≡ 7 }
     ensures { s.new ≡ joined (drop 3 (channel_pieces g)) }
 {
-    let class = g.class;
-    write_text(&mut s[0..2], &class);
-    let service = g.service;
-    write_text(&mut s[2..4], &service);
-    let users = g.users;
-    write_text(&mut s[4..6], &users);
+    write_text(&mut s[0..2], &g.class);
+    write_text(&mut s[2..4], &g.service);
+    write_text(&mut s[4..6], &g.users);
     write_byte(&mut s[6..7], g.carrier);
 }
 
@@ -41,12 +38,9 @@ fn put_location(g: Site, s: &mut [u8])
     requires { length s.old ≡ 24 }
     ensures { s.new ≡ joined (drop 3 (site_pieces g)) }
 {
-    let position = g.position;
-    put_position(&mut s[0..15], position);
-    let radius = g.radius;
-    put_radius(&mut s[15..20], radius);
-    let height = g.height;
-    put_height(&mut s[20..24], height);
+    put_position(&mut s[0..15], g.position);
+    put_radius(&mut s[15..20], g.radius);
+    put_height(&mut s[20..24], g.height);
 }
 
 // 2C, 4A, 4B and the place on the ground, columns 21 to 75.
@@ -54,12 +48,9 @@ pub(crate) fn put_site(g: Site, s: &mut [u8])
     requires { length s.old ≡ 55 }
     ensures { s.new ≡ joined (site_pieces g) }
 {
-    let started = g.started;
-    put_day(&mut s[0..8], started);
-    let name = g.name;
-    write_text(&mut s[8..28], &name);
-    let country = g.country;
-    write_text(&mut s[28..31], &country);
+    put_day(&mut s[0..8], g.started);
+    write_text(&mut s[8..28], &g.name);
+    write_text(&mut s[28..31], &g.country);
     put_location(g, &mut s[31..55]);
 }
 
@@ -69,12 +60,9 @@ fn put_status(g: Coordination, s: &mut [u8])
     ensures { s.new ≡ joined (drop 3 (coordination_pieces g)) }
 {
     write_byte(&mut s[0..1], g.status);
-    let requested = g.requested;
-    put_day(&mut s[1..9], requested);
-    let coordinated = g.coordinated;
-    put_day(&mut s[9..17], coordinated);
-    let reference = g.reference;
-    write_text(&mut s[17..32], &reference);
+    put_day(&mut s[1..9], g.requested);
+    put_day(&mut s[9..17], g.coordinated);
+    write_text(&mut s[17..32], &g.reference);
 }
 
 // 1Y with its unit, 13Z and what follows, columns 126 to 219.
@@ -85,7 +73,6 @@ pub(crate) fn put_coordination(g: Coordination, s: &mut [u8])
     let receive = g.receive;
     put_amount(&mut s[0..11], receive);
     put_unit(&mut s[11..12], receive);
-    let remarks = g.remarks;
-    write_text(&mut s[12..62], &remarks);
+    write_text(&mut s[12..62], &g.remarks);
     put_status(g, &mut s[62..94]);
 }

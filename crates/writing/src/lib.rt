@@ -6,7 +6,7 @@ ghost use Rattle.station.specs.Spelling.{spell_station};
 ghost use Rattle.writing.specs.Promises.{StationWritten};
 
 use crate::groups::{put_channel, put_coordination, put_site};
-use basics::Outcome;
+use basics::Refusal;
 use emission_writing::{put_antenna, put_emission};
 use station::Station;
 use station::typed::typed_code;
@@ -18,30 +18,25 @@ pub fn put_station(s: Station, buffer: &mut [u8])
     requires { length buffer.old ≡ 219 }
     ensures { buffer.new ≡ spell_station s }
 {
-    let channel = s.channel;
-    put_channel(channel, &mut buffer[0..20]);
-    let site = s.site;
-    put_site(site, &mut buffer[20..75]);
-    let emission = s.emission;
-    put_emission(emission, &mut buffer[75..101]);
-    let antenna = s.antenna;
-    put_antenna(antenna, &mut buffer[101..125]);
-    let coordination = s.coordination;
-    put_coordination(coordination, &mut buffer[125..219]);
+    put_channel(s.channel, &mut buffer[0..20]);
+    put_site(s.site, &mut buffer[20..75]);
+    put_emission(s.emission, &mut buffer[75..101]);
+    put_antenna(s.antenna, &mut buffer[101..125]);
+    put_coordination(s.coordination, &mut buffer[125..219]);
 }
 
 // Writes a station into a lent buffer; it is refused where that has not 219 bytes, or the station breaks a rule, and then
 // nothing is written.
-pub fn write_station(s: Station, buffer: &mut [u8]) -> Outcome
+pub fn write_station(s: Station, buffer: &mut [u8]) -> Result<(), Refusal>
     ensures { StationWritten s buffer.old result buffer.new }
 {
     if buffer.len() != 219 {
-        return Outcome::BufferLength;
+        return Err(Refusal::BufferLength);
     }
     let code = typed_code(s);
     if code != 0 {
-        return Outcome::RuleBroken(code);
+        return Err(Refusal::RuleBroken(code));
     }
     put_station(s, buffer);
-    Outcome::Done
+    Ok(())
 }

@@ -6,13 +6,14 @@ use native.Mathlib.Omega.{arith}
 use lib.Dec.{leb, eqb}
 use borrow.Author.Tests.{leb-true, not-true}
 use Rattle.numerals.specs.Numbers.{whole_filled, amount}
-use Rattle.numerals.specs.declared.Whole.{Whole}
 use Rattle.columns.proofs.TextLaws.{and_split}
 use Rattle.arcs.proofs.is_arc.Goals as goal
 use Rattle.arcs.proofs.is_arc.Goals.{Else-not-is_hemisphere, Else-not-is_up_to, Else-not-is_up_to-2, Else-not-is_up_to-3}
+use Rattle.std.specs.Prelude.{Option, Result}
+use Rattle.numerals.specs.declared.Unread.{Unread}
 
 -- a number that was read and passed is at most the given one
-up_to : (w : Whole) (most : ℕ) → (whole_filled w && leb (amount w) most) ≡ true → amount w ≤ most
+up_to : (w : Result (Option ℕ) Unread) (most : ℕ) → (whole_filled w && leb (amount w) most) ≡ true → amount w ≤ most
 up_to w most e = leb-true (amount w) most (and_split (whole_filled w) (leb (amount w) most) e).1
 
 -- the tests that were passed: degrees,

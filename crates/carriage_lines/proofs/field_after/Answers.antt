@@ -8,15 +8,15 @@ use native.Mathlib.Omega.{arith}
 use borrow.Author.Rules.{rules}
 use Rattle.carriage_lines.proofs.field_after.Goals as goal
 
-pub loop-i-init : goal.loop-i-init
-loop-i-init c = (omega arith, omega arith, behind-none c.args.line.now)
+pub loop-init : goal.loop-init
+loop-init c = (omega arith, omega arith, behind-none c.args.line.now)
 
-pub loop-i-preserved : goal.loop-i-preserved
-loop-i-preserved c =
+pub loop-preserved : goal.loop-preserved
+loop-preserved c =
     let line = c.args.line.now in
-    (search rules, c.past-at.ensures.0, c.past-at.ensures.1 ∙ c.field_at-field.ensures.2 ∙ ap behind c.loop-i.invariant.2 ∙ behind_next c.loop-i.i line)
+    (search rules, c.past-at.ensures.0, c.past-at.ensures.1 ∙ c.field_at-field.ensures.2 ∙ ap behind c.loop.invariant.2 ∙ behind_next c.loop.counter line)
 
 pub returns : goal.returns
 returns c =
-    let there : c.loop-i.i ≡ c.args.k = omega (arith, c.loop-i.invariant.0, c.loop-i-test.false) in
-    c.field_at.ensures.0 ∙ ap before c.loop-i.invariant.2 ∙ ap (λ (i : ℕ). before (behind_fields i c.args.line.now)) there ∙ field_there c.args.k c.args.line.now
+    let there : c.loop.counter ≡ c.args.k = omega (arith, c.loop.invariant.0, c.loop-test.false) in
+    c.field_at.ensures.0 ∙ ap before c.loop.invariant.2 ∙ ap (λ (i : ℕ). before (behind_fields i c.args.line.now)) there ∙ field_there c.args.k c.args.line.now

@@ -5,8 +5,5 @@ use lib.ListN.{length, drop}
 use Rattle.carriage_lines.specs.Lines.{behind_fields}
 use Rattle.carriage_lines.proofs.field_after.Given as goal
 
-abbrev pub invariant-loop-i : goal.invariant-loop-i
-invariant-loop-i l = (l.i ≤ l.k) × (l.at ≤ length l.line) × (drop l.at l.line ≡ behind_fields l.i l.line)
-
-abbrev pub decreases-loop-i : goal.decreases-loop-i
-decreases-loop-i l = l.k - l.i
+abbrev pub invariant-loop : goal.invariant-loop
+invariant-loop l = (l.counter ≤ l.k) × (l.at ≤ length l.line) × (drop l.at l.line ≡ behind_fields l.counter l.line)

@@ -8,7 +8,7 @@ pub first_bearer-found-requires : goal.first_bearer-found-requires
 first_bearer-found-requires c =
     let some = c.requires.some_sites in
     record {
-      record_length_in_bounds = c.requires.record_length_in_bounds;
+      has_record = c.requires.has_record;
       le_k = c.requires.le_k;
       chained = record { who = some.who; chains = some.sites.chains };
     }
@@ -26,10 +26,10 @@ alike-requires c =
     let some = c.requires.some_sites in
     let e = c.first_bearer-found.ensures some.who some.sites.chains in
     let low = bearer_most c.args.file.now some.who c.args.k c.requires.le_k.0 in
-    (omega (arith, e, low, c.requires.record_length_in_bounds), c.requires.record_length_in_bounds)
+    (omega (arith, e, low, c.requires.has_record), c.requires.has_record)
 
-pub bounds-seconds-leader : goal.bounds-seconds-leader
-bounds-seconds-leader c =
+pub bounds-sites-leader : goal.bounds-sites-leader
+bounds-sites-leader c =
     let some = c.requires.some_sites in
     let e = c.first_bearer-found.ensures some.who some.sites.chains in
     let low = bearer_most c.args.file.now some.who c.args.k c.requires.le_k.0 in
@@ -39,7 +39,7 @@ pub returns-then-alike : goal.returns-then-alike
 returns-then-alike c = record {
   kept_2 = c.requires.kept;
   by_index = λ who part so_far.
-      site-alike c.args.file.now who c.args.k c.requires.le_k.0 part c.first_bearer-found.result (omega arith) (sym (c.first_bearer-found.ensures who so_far.chains)) c.args.heads.now c.args.nexts.now c.args.seconds.now
+      site-alike c.args.file.now who c.args.k c.requires.le_k.0 part c.first_bearer-found.result (omega arith) (sym (c.first_bearer-found.ensures who so_far.chains)) c.args.sites.now
       (sym c.alike.ensures ∙ c.if-alike.true) so_far;
 }
 
@@ -49,7 +49,7 @@ note_second-requires c =
     let e = c.first_bearer-found.ensures some.who some.sites.chains in
     let low = bearer_most c.args.file.now some.who c.args.k c.requires.le_k.0 in
     record {
-      record_length_in_bounds = c.requires.record_length_in_bounds;
+      has_record = c.requires.has_record;
       le_k = (c.requires.le_k.0, c.requires.le_k.1, omega arith, omega (arith, e, low, c.requires.le_k.1));
       kept = c.requires.kept;
     }
@@ -60,5 +60,5 @@ returns c = record {
   by_index = λ who part so_far.
       let e = sym (c.first_bearer-found.ensures who so_far.chains) in
       let other = sym c.alike.ensures ∙ c.if-alike.false in
-      site_unlike c.args.file.now who c.args.k c.requires.le_k.0 part c.first_bearer-found.result (omega arith) e c.args.heads.now c.args.nexts.now c.args.seconds.now _ other (c.note_second.ensures.by_index who part e other so_far.elsewhere) so_far;
+      site_unlike c.args.file.now who c.args.k c.requires.le_k.0 part c.first_bearer-found.result (omega arith) e c.args.sites.now _ c.note_second.ensures.rest other (c.note_second.ensures.by_index who part e other so_far.elsewhere) so_far;
 }

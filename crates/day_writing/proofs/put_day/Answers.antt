@@ -5,11 +5,11 @@ use lib.ListN.{replicate}
 use Rattle.days.specs.Dates.{spell_day}
 use Rattle.day_writing.proofs.put_day.Goals as goal
 
-pub returns-in-Blank : goal.returns-in-Blank
+pub returns-in-None : goal.returns-in-None
 unfolding spell_day
-returns-in-Blank c =
-    c.write_blank.ensures ∙ ap (λ (n : ℕ). replicate n 32) c.requires ∙ sym (ap spell_day c.in-Blank.is)
+returns-in-None c =
+    c.write_blank.ensures ∙ ap (λ (n : ℕ). replicate n 32) c.requires ∙ sym (ap spell_day c.in-None.is)
 
-pub returns-in-Filled : goal.returns-in-Filled
+pub returns-in-Some : goal.returns-in-Some
 unfolding spell_day
-returns-in-Filled c = c.put_date.ensures ∙ sym (ap spell_day c.in-Filled.is)
+returns-in-Some c = c.put_date.ensures ∙ sym (ap spell_day c.in-Some.is)

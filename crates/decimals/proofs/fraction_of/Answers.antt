@@ -7,7 +7,6 @@ use borrow.Author.Tests.{eq-eqb, ne_eqb, not-true, not-false}
 use Rattle.columns.specs.Texts.{ended, blank}
 use Rattle.numerals.specs.Numbers.{leading}
 use Rattle.decimals.specs.Decimals.{fraction_of}
-use Rattle.numerals.specs.declared.Whole.TheVariants as whole
 use Rattle.columns.proofs.TextLaws.{ended-length, from_on}
 use Rattle.numerals.proofs.NumberLaws.{leading_few, leading_inside}
 use Rattle.decimals.proofs.DecimalLaws.{zeros_fit}
@@ -15,6 +14,7 @@ use native.Mathlib.Omega.{arith}
 use borrow.Author.Rules.{rules}
 use Rattle.decimals.proofs.fraction_of.Goals as goal
 use Rattle.decimals.proofs.fraction_of.Goals.{After-is_blank_stepwise, Else-n-eq0}
+use Rattle.std.specs.Prelude.{Some, Ok}
 
 pub returns-then-n-eq0 : goal.returns-then-n-eq0
 unfolding fraction_of
@@ -63,4 +63,4 @@ pub returns : goal.returns
 unfolding fraction_of
 returns c =
     rw ((some (goal.at.returns c).Else-n-eq0), ← (follows (goal.at.returns c).After-is_blank_stepwise), not-false c.is_blank_stepwise.result c.if-not-is_blank_stepwise.false-raw)
-    (ap whole.Filled (c.scaled.ensures ∙ rw (c.digits-f.ensures.0, c.digits-f.ensures.1)))
+    (ap (λ (n : ℕ). Ok (Some n)) (c.scaled.ensures ∙ rw (c.digits-f.ensures.0, c.digits-f.ensures.1)))

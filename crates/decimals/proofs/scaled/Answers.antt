@@ -1,25 +1,13 @@
--- `decimals::scaled` meets its contract. The invariant: with the zeros that are left it is the number asked for, and there is room for it.
-use Prim.Native.Nat.{ℕ, zero, suc, ◌*◌, ◌-◌, ◌^◌, ◌≤◌}
-use mathlib.Core.Path.{◌≡◌, refl, sym, ◌∙◌}
-use native.Mathlib.Nat.{mul-one}
-use Rattle.numerals.proofs.NumberLaws.{scale_turn}
-use native.Mathlib.Omega.{arith}
+-- `decimals::scaled` meets its contract: a number with its zeros has no more than eighteen digits.
+use Rattle.std.proofs.Common.{arith, ℕ, ◌≡◌, ◌≤◌, ◌+◌, ◌*◌, ◌-◌, ◌^◌, sym, ap, ◌∙◌, pow-add}
+use Rattle.std.proofs.Math.Nat.{mul-le-mul_right}
 use Rattle.decimals.proofs.scaled.Goals as goal
 
-no_zeros : (r k : ℕ) → k ≤ 0 → r * 10 ^ k ≡ r
-no_zeros r zero h = mul-one r
-no_zeros r (suc k) h = absurd (omega arith)
-
-pub loop-left-init : goal.loop-left-init
-loop-left-init c = (c.requires.0, c.requires.1, refl)
-
-pub overflow_mul-r : goal.overflow_mul-r
-overflow_mul-r c = omega (arith, scale_turn c.loop-left.r c.loop-left.left c.loop-left-test.true c.loop-left.invariant.0 c.loop-left.invariant.1)
-
-pub loop-left-preserved : goal.loop-left-preserved
-loop-left-preserved c =
-    let t = scale_turn c.loop-left.r c.loop-left.left c.loop-left-test.true c.loop-left.invariant.0 c.loop-left.invariant.1 in
-    (omega arith, t.0, c.loop-left.invariant.2 ∙ t.1)
-
-pub returns : goal.returns
-returns c = sym (c.loop-left.invariant.2 ∙ no_zeros c.loop-left.r c.loop-left.left c.loop-left-test.false)
+pub overflow_mul-result : goal.overflow_mul-result
+overflow_mul-result c =
+    let v = c.args.v in
+    let k = c.args.k in
+    let whole : 18 - k + k ≡ 18 = omega arith in
+    let most : v * 10 ^ k ≤ 10 ^ (18 - k) * 10 ^ k = mul-le-mul_right (10 ^ k) (omega arith) in
+    let all : 10 ^ (18 - k) * 10 ^ k ≡ 10 ^ 18 = sym (pow-add 10 (18 - k) k) ∙ ap (λ (n : ℕ). 10 ^ n) whole in
+    rw c.pow.ensures (record { fits = omega (arith, most, all) })

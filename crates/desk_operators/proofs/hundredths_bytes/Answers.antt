@@ -3,10 +3,10 @@ use mathlib.Core.Path.{refl}
 use Rattle.desk_operators.specs.Rows.{spell_hundredths}
 use Rattle.desk_operators.proofs.hundredths_bytes.Goals as goal
 
-pub returns-in-Blank : goal.returns-in-Blank
+pub returns-in-None : goal.returns-in-None
 unfolding spell_hundredths
-returns-in-Blank c = rw c.in-Blank.is refl
+returns-in-None c = rw c.in-None.is refl
 
-pub returns-in-Filled : goal.returns-in-Filled
+pub returns-in-Some : goal.returns-in-Some
 unfolding spell_hundredths
-returns-in-Filled c = rw c.in-Filled.is c.frequency_bytes.ensures
+returns-in-Some c = rw c.in-Some.is c.frequency_bytes.ensures

@@ -1,7 +1,6 @@
 -- `desk_replaying::desk_replay` meets its contract.
 use mathlib.Core.Path.{ap, ◌∙◌}
-use Rattle.basics.specs.Outcomes.{refusal}
-use Rattle.basics.specs.declared.Outcome.{Outcome}
+use Rattle.basics.specs.Outcomes.{refusal, Outcome}
 use Rattle.desk_replaying.proofs.desk_replay.Goals as goal
 
 pub returns : goal.returns

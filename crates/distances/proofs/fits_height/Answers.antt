@@ -5,11 +5,11 @@ use Rattle.numerals.proofs.Signs.{in_bits}
 use Rattle.distances.proofs.DistanceLaws.{in_four}
 use Rattle.distances.proofs.fits_height.Goals as goal
 
-pub returns-in-Blank : goal.returns-in-Blank
+pub returns-in-None : goal.returns-in-None
 unfolding height_fits
-returns-in-Blank c = sym (ap height_fits c.in-Blank.is)
+returns-in-None c = sym (ap height_fits c.in-None.is)
 
-pub returns-in-Filled : goal.returns-in-Filled
+pub returns-in-Some : goal.returns-in-Some
 unfolding height_fits
-returns-in-Filled c =
-    c.fits_signed.ensures ∙ rw (in_bits c.in-Filled.m.0 c.struct_told-1.given.0.1) (in_four c.in-Filled.m.0) ∙ sym (ap height_fits c.in-Filled.is)
+returns-in-Some c =
+    c.fits_signed.ensures ∙ rw (in_bits c.in-Some.m.0 c.struct_told-1.given.0.1) (in_four c.in-Some.m.0) ∙ sym (ap height_fits c.in-Some.is)

@@ -1,17 +1,13 @@
--- `distances::read_height` meets its contract, case by case.
-use mathlib.Core.Path.{sym, ap, ◌∙◌}
-use Rattle.distances.specs.Distances.{in_metres, height_of}
+-- `distances::read_height` meets its contract, by the answer of the reader that it calls.
+use native.Mathlib.Omega.{arith}
+use Rattle.distances.specs.Distances.{height_of}
 use Rattle.numerals.proofs.Signs.{in_bits}
 use Rattle.distances.proofs.read_height.Goals as goal
 
-pub returns-in-Bad : goal.returns-in-Bad
+pub returns : goal.returns
 unfolding height_of
-returns-in-Bad c = sym (ap in_metres (sym c.read_signed.ensures ∙ c.in-Bad.is))
+returns c = rw (in_bits c.in_ok-z.z (omega arith), ← c.read_signed.ensures, ← c.unwrap_or.ensures, c.in_ok-z.was)
 
-pub returns-in-Blank : goal.returns-in-Blank
+pub returns-in_err-z : goal.returns-in_err-z
 unfolding height_of
-returns-in-Blank c = sym (ap in_metres (sym c.read_signed.ensures ∙ c.in-Blank.is))
-
-pub returns-in-Filled : goal.returns-in-Filled
-unfolding height_of
-returns-in-Filled c = rw (in_bits c.in-Filled.z c.in-Filled.known_told-1-own.given.0.1) (sym (ap in_metres (sym c.read_signed.ensures ∙ c.in-Filled.is)))
+returns-in_err-z c = rw (c.from_residual.ensures, ← c.read_signed.ensures, ← c.unwrap_or.ensures, c.in_err-z.was)

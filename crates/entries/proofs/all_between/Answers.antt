@@ -1,17 +1,14 @@
--- `entries::all_between` meets its contract: the bytes that were passed are from the lowest to the highest.
-use Prim.Native.Nat.{◌-◌}
-use mathlib.Core.Path.{refl, sym, ◌∙◌}
-use Rattle.columns.proofs.TextLaws.{every_more, every-not, every_end}
+-- `entries::all_between` meets its contract: the library asks the same of every byte.
+use Rattle.std.proofs.Common.{rules, ℕ, Bool, ◌&&◌, ◌∙◌, sym}
+use lib.Dec.{leb}
+use Rattle.std.proofs.lemmas.Iterator.{YieldsList-from_slice}
+use Rattle.std.proofs.lemmas.Iterator.Search.{all_from_yields_List}
+use borrow.Author.Tests.{tests}
+use Rattle.columns.proofs.TextLaws.{every-list_all}
 use Rattle.entries.proofs.all_between.Goals as goal
 
-pub loop-i-init : goal.loop-i-init
-loop-i-init c = refl
-
-pub returns-then-not-is_between : goal.returns-then-not-is_between
-returns-then-not-is_between c = sym (c.loop-i.invariant ∙ every-not _ _ _ c.loop-i-test.true (sym c.is_between.ensures ∙ c.if-not-is_between.true))
-
-pub loop-i-preserved : goal.loop-i-preserved
-loop-i-preserved c = c.loop-i.invariant ∙ every_more _ _ _ c.loop-i-test.true (sym c.is_between.ensures ∙ c.if-not-is_between.false)
-
 pub returns : goal.returns
-returns c = sym (c.loop-i.invariant ∙ every_end _ _ _ c.loop-i-test.false)
+returns c =
+    let s = c.args.s.now in
+    let test : ℕ → Bool = λ x. leb c.args.low x && leb x c.args.high in
+    all_from_yields_List test _ _ c.all.result c.all.ensures.ran (YieldsList-from_slice s (cc)) (λ x b q k. search (rules, tests)) ∙ sym (every-list_all test s)

@@ -1,6 +1,6 @@
 -- `explaining::put_rows` meets its contract: the lines of so many rows stand, each behind the one before it.
 use mathlib.Core.Path.{◌≡◌}
-use Prim.Native.Nat.{◌+◌, ◌-◌, ◌*◌, ◌≤◌}
+use Prim.Native.Nat.{◌+◌, ◌*◌, ◌≤◌}
 use lib.ListN.{length}
 use Rattle.forms.specs.Counting.{rows}
 use Rattle.explained_rows.specs.Rows.{row_explained}
@@ -8,7 +8,4 @@ use Rattle.printing.specs.Promises.{Appended}
 use Rattle.explaining.proofs.put_rows.Given as goal
 
 abbrev pub invariant-loop-i : goal.invariant-loop-i
-invariant-loop-i l = (l.i ≤ l.n) × (length l.out ≡ length l.initial.out) × (l.end ≤ l.start + 138 * l.i) × Appended l.initial.out l.start (rows (row_explained l.file l.sheet) l.i) l.out l.end
-
-abbrev pub decreases-loop-i : goal.decreases-loop-i
-decreases-loop-i l = l.n - l.i
+invariant-loop-i l = (length l.out ≡ length l.initial.out) × (l.end ≤ l.start + 138 * l.i) × Appended l.initial.out l.start (rows (row_explained l.file l.sheet) l.i) l.out l.end

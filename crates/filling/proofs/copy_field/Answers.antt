@@ -1,8 +1,8 @@
 -- `filling::copy_field` meets its contract: so many bytes are copied, and none of them is a mark.
-use mathlib.Core.Path.{refl, sym, ◌∙◌}
-use Prim.Native.Nat.{◌-◌}
+use mathlib.Core.Path.{◌≡◌, refl, sym, ◌∙◌}
+use Prim.Native.Nat.{◌<◌}
 use lib.Arith.{lt_of_le-ne}
-use lib.ListN.{length-set}
+use lib.ListN.{length, length-set}
 use Rattle.semicolons.proofs.MarkLaws.{pass_on, mark_ends, text_ends, copied_on}
 use native.Mathlib.Omega.{arith}
 use borrow.Author.Rules.{rules}
@@ -26,20 +26,15 @@ returns-then-is_mark c =
     let i = c.loop-i.invariant in
     (i.2, i.3, i.0, λ h. mark_ends _ _ i.0 (lt_of_le-ne i.0.0 c.if-i-text.false) (sym c.is_mark.ensures ∙ c.if-is_mark.true))
 
-pub loop-i-smaller : goal.loop-i-smaller
-loop-i-smaller c =
-    let size = c.loop-i.invariant.1 in
-    let h = c.loop-i-test.true in
-    omega (arith, size, h)
-
 pub loop-i-preserved : goal.loop-i-preserved
 loop-i-preserved c =
     let i = c.loop-i.invariant in
     let inside = lt_of_le-ne i.0.0 c.if-i-text.false in
-    (pass_on _ _ i.0 inside (sym c.is_mark.ensures ∙ c.if-is_mark.false), search rules, simp length-set (omega (arith, c.loop-i-test.true)), copied_on _ _ _ inside c.loop-i-test.true i.3)
+    let room : c.loop-i.i < length c.loop-i.columns = omega (arith, i.1, c.loop-i-test.true) in
+    (pass_on _ _ i.0 inside (sym c.is_mark.ensures ∙ c.if-is_mark.false), search rules, simp length-set (omega (arith, room)), copied_on _ _ _ inside room i.3)
 
 pub returns : goal.returns
 returns c =
     let i = c.loop-i.invariant in
-    let end = c.loop-i-test.false in
-    (i.2, i.3, i.0, λ h. absurd (omega (arith, h, end)))
+    let all : c.loop-i.i ≡ length c.loop-i.columns = omega (arith, i.1, i.2, c.loop-i-test.false) in
+    (omega arith, rw (← all) i.3, rw (← all) i.0, λ h. absurd (omega (arith, h)))

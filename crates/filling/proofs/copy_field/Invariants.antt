@@ -7,6 +7,3 @@ use Rattle.filling.proofs.copy_field.Given as goal
 
 abbrev pub invariant-loop-i : goal.invariant-loop-i
 invariant-loop-i l = Passed l.text l.i × (length l.columns ≡ length l.initial.columns) × (l.i ≤ length l.columns) × (take l.i l.columns ≡ take l.i l.text)
-
-abbrev pub decreases-loop-i : goal.decreases-loop-i
-decreases-loop-i l = length l.initial.columns - l.i

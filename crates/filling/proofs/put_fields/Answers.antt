@@ -62,12 +62,6 @@ overflow_add-at c =
     let inside = ends_inside c.args.line.now c.loop-k.rec c.loop-k.at c.loop-k.column w c.loop-k.invariant.1.inside end _ _ _ c.if-w-n.false c.put_field-n.ensures.0 in
     search rules
 
-pub past-at-requires : goal.past-at-requires
-past-at-requires c =
-    let w = c.width_after-w.result in
-    let end = rw (← c.loop-k.invariant.0) at (room (goal.at.past-at-requires c).After-side_after-side) in
-    ends_inside c.args.line.now c.loop-k.rec c.loop-k.at c.loop-k.column w c.loop-k.invariant.1.inside end _ _ _ c.if-w-n.false c.put_field-n.ensures.0
-
 pub loop-k-preserved : goal.loop-k-preserved
 loop-k-preserved c =
     let w = c.width_after-w.result in

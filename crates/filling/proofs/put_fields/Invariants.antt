@@ -9,6 +9,3 @@ use Rattle.filling.proofs.put_fields.Given as goal
 
 abbrev pub invariant-loop-k : goal.invariant-loop-k
 invariant-loop-k l = (length l.rec ≡ 219) × Filled station_sides station_places l.line l.rec l.k l.at l.column
-
-abbrev pub decreases-loop-k : goal.decreases-loop-k
-decreases-loop-k l = 30 - l.k

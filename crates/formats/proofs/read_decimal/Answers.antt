@@ -5,7 +5,6 @@ use Rattle.flaws.specs.Flaws.{unread}
 use Rattle.flaws.specs.declared.Flaw.{Flaw}
 use Prim.Native.Nat.{◌^◌, ◌<◌}
 use Rattle.numerals.specs.Numbers.{in_sign, amount}
-use Rattle.numerals.specs.declared.Signed.{Signed}
 use Rattle.decimals.specs.Decimals.{magnitude_of, admits_decimal, decimal_of}
 use Rattle.formats.specs.Formats.{digits_before, digits_after, may_sign, format_of}
 use Rattle.columns.proofs.TextLaws.{from_on}
@@ -15,9 +14,10 @@ use Rattle.decimals.proofs.DecimalLaws.{magnitude_small}
 use Rattle.decimals.proofs.Letters.{plain-decimal, signed_decimal}
 use Rattle.formats.proofs.read_decimal.Goals as goal
 use Rattle.formats.proofs.read_decimal.Goals.{After-magnitude_of-w}
+use Rattle.std.specs.Prelude.{Option, Result, ℤ}
 
 -- what was read, where its bytes are judged as the field admits them
-read : (c : After-magnitude_of-w) → (r : Signed) → r ≡ in_sign (unread (admits_decimal c.may_sign-sign.result) c.args.s.now) c.has_minus-minus.result c.magnitude_of-w.result → r ≡ format_of c.args.format c.args.s.now
+read : (c : After-magnitude_of-w) → (r : Result (Option ℤ) Flaw) → r ≡ in_sign (unread (admits_decimal c.may_sign-sign.result) c.args.s.now) c.has_minus-minus.result c.magnitude_of-w.result → r ≡ format_of c.args.format c.args.s.now
 unfolding decimal_of
 read c r h =
     let s = c.args.s.now in

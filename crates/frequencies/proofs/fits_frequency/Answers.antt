@@ -5,11 +5,11 @@ use Rattle.frequencies.proofs.FrequencyLaws.{amount-not, amount_above}
 use Rattle.frequencies.proofs.fits_frequency.Goals as goal
 
 pub returns-then-not-fits_whole : goal.returns-then-not-fits_whole
-returns-then-not-fits_whole c = amount-not _ _ c.in-Filled.is (sym c.fits_whole.ensures ∙ c.if-not-fits_whole.true)
+returns-then-not-fits_whole c = amount-not _ c.in-Some.is (sym c.fits_whole.ensures ∙ c.if-not-fits_whole.true)
 
-pub returns-in-Blank : goal.returns-in-Blank
+pub returns-in-None : goal.returns-in-None
 unfolding frequency_fits
-returns-in-Blank c = rw c.in-Blank.is
+returns-in-None c = rw c.in-None.is
 
 pub returns-else-not-fits_whole : goal.returns-else-not-fits_whole
-returns-else-not-fits_whole c = amount_above _ _ c.in-Filled.is (sym c.fits_whole.ensures ∙ c.if-not-fits_whole.false)
+returns-else-not-fits_whole c = amount_above _ c.in-Some.is (sym c.fits_whole.ensures ∙ c.if-not-fits_whole.false)

@@ -1,23 +1,22 @@
 -- `frequencies::is_amount` meets its contract: in its one spelling it is a decimal above zero, and else each arm is the answer that the columns say.
-use mathlib.Core.Path.{sym, ap, ◌∙◌}
-use Rattle.numerals.specs.Numbers.{passes}
-use Rattle.frequencies.specs.Frequencies.{above_zero, amount_good}
+use mathlib.Core.Path.{sym}
+use native.Mathlib.Omega.{arith}
+use Rattle.frequencies.specs.Frequencies.{amount_good}
 use Rattle.numerals.proofs.Signs.{in_bits}
 use Rattle.frequencies.proofs.is_amount.Goals as goal
 
 pub returns-then-is_plain_amount : goal.returns-then-is_plain_amount
 returns-then-is_plain_amount c = sym (c.is_plain_amount.ensures c.if-is_plain_amount.true)
 
-pub returns-in-Bad : goal.returns-in-Bad
+pub returns-in-Err : goal.returns-in-Err
 unfolding amount_good
-returns-in-Bad c = sym (ap (passes above_zero) (sym c.read_decimal.ensures ∙ c.in-Bad.is))
+returns-in-Err c = rw (← c.read_decimal.ensures, c.in-Err.is)
 
-pub returns-in-Blank : goal.returns-in-Blank
+pub returns-in-Ok-None : goal.returns-in-Ok-None
 unfolding amount_good
-returns-in-Blank c = sym (ap (passes above_zero) (sym c.read_decimal.ensures ∙ c.in-Blank.is))
+returns-in-Ok-None c = rw (← c.read_decimal.ensures, c.in-Ok-None.is, c.in-Ok-None.field-0-is)
 
-pub returns-in-Filled : goal.returns-in-Filled
+pub returns-in-Ok-Some : goal.returns-in-Ok-Some
 unfolding amount_good
-returns-in-Filled c =
-    rw (c.magnitude.ensures, in_bits _ c.in-Filled.known_told-1-own.given.0.1)
-    (sym (ap (passes above_zero) (sym c.read_decimal.ensures ∙ c.in-Filled.is)))
+returns-in-Ok-Some c =
+    rw (c.magnitude.ensures, in_bits c.in-Ok-Some.v (omega arith), ← c.read_decimal.ensures, c.in-Ok-Some.is, c.in-Ok-Some.field-0-is)

@@ -6,12 +6,12 @@ use Rattle.decimals.specs.Decimals.{spell_decimal}
 use Rattle.frequencies.specs.Frequencies.{spell_amount}
 use Rattle.frequencies.proofs.put_amount.Goals as goal
 
-pub returns-in-Blank : goal.returns-in-Blank
+pub returns-in-None : goal.returns-in-None
 unfolding spell_amount
-returns-in-Blank c =
-    c.write_blank.ensures ∙ ap (λ (n : ℕ). replicate n 32) c.requires ∙ sym (ap spell_amount c.in-Blank.is)
+returns-in-None c =
+    c.write_blank.ensures ∙ ap (λ (n : ℕ). replicate n 32) c.requires ∙ sym (ap spell_amount c.in-None.is)
 
-pub returns-in-Filled : goal.returns-in-Filled
+pub returns-in-Some : goal.returns-in-Some
 unfolding spell_amount spell_decimal
-returns-in-Filled c =
-    c.put_magnitude.ensures ∙ sym (ap spell_amount c.in-Filled.is)
+returns-in-Some c =
+    c.put_magnitude.ensures ∙ sym (ap spell_amount c.in-Some.is)

@@ -6,12 +6,12 @@ use Rattle.frequencies.specs.Frequencies.{spell_unit}
 use Rattle.frequencies.proofs.FrequencyLaws.{one_column}
 use Rattle.frequencies.proofs.put_unit.Goals as goal
 
-pub returns-in-Blank : goal.returns-in-Blank
+pub returns-in-None : goal.returns-in-None
 unfolding spell_unit
-returns-in-Blank c =
-    one_column c.args.s.now _ c.requires ∙ sym (ap spell_unit c.in-Blank.is)
+returns-in-None c =
+    one_column c.args.s.now _ c.requires ∙ sym (ap spell_unit c.in-None.is)
 
-pub returns-in-Filled : goal.returns-in-Filled
+pub returns-in-Some : goal.returns-in-Some
 unfolding spell_unit
-returns-in-Filled c =
-    one_column c.args.s.now _ c.requires ∙ ap (λ (b : ℕ). b ∷ []) c.unit_letter.ensures ∙ sym (ap spell_unit c.in-Filled.is)
+returns-in-Some c =
+    one_column c.args.s.now _ c.requires ∙ ap (λ (b : ℕ). b ∷ []) c.unit_letter.ensures ∙ sym (ap spell_unit c.in-Some.is)

@@ -1,21 +1,14 @@
--- `frequencies::read_frequency` meets its contract: each arm is the answer that the columns say.
-use mathlib.Core.Path.{sym, ap, ◌∙◌}
-use Rattle.columns.specs.Texts.{head}
-use Rattle.numerals.specs.declared.Signed.{Signed}
-use Rattle.frequencies.specs.Frequencies.{unit_of, in_unit, frequency_of}
+-- `frequencies::read_frequency` meets its contract, by the answer of the reader that it calls.
+use native.Mathlib.Omega.{arith}
+use Rattle.frequencies.specs.Frequencies.{frequency_of}
 use Rattle.numerals.proofs.Signs.{in_bits}
 use Rattle.frequencies.proofs.read_frequency.Goals as goal
 
-pub returns-in-Bad : goal.returns-in-Bad
+pub returns : goal.returns
 unfolding frequency_of
-returns-in-Bad c = sym (ap (λ (a : Signed). in_unit a (unit_of (head c.args.q.now))) (sym c.read_decimal.ensures ∙ c.in-Bad.is))
+returns c =
+    rw (c.magnitude.ensures, in_bits c.in_ok-v.v (omega arith), c.unit_of.ensures, c.byte.ensures, ← c.read_decimal.ensures, ← c.unwrap_or.ensures, c.in_ok-v.was)
 
-pub returns-in-Blank : goal.returns-in-Blank
+pub returns-in_err-v : goal.returns-in_err-v
 unfolding frequency_of
-returns-in-Blank c = sym (ap (λ (a : Signed). in_unit a (unit_of (head c.args.q.now))) (sym c.read_decimal.ensures ∙ c.in-Blank.is))
-
-pub returns-in-Filled : goal.returns-in-Filled
-unfolding frequency_of
-returns-in-Filled c =
-    rw (c.magnitude.ensures, in_bits _ c.in-Filled.known_told-1-own.given.0.1, c.unit_of.ensures, c.byte.ensures)
-    (sym (ap (λ (a : Signed). in_unit a (unit_of (head c.args.q.now))) (sym c.read_decimal.ensures ∙ c.in-Filled.is)))
+returns-in_err-v c = rw (c.from_residual.ensures, ← c.read_decimal.ensures, ← c.unwrap_or.ensures, c.in_err-v.was)

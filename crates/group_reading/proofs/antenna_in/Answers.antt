@@ -14,9 +14,9 @@ returns c =
     let r = c.args.rec.now in
     let l : length r ≡ 219 = c.requires in
     λ k. record {
-      polarisation = (c.text2-polarisation.ensures ∙ text_there 2 101 r (omega arith)) k;
+      polarisation = (c.text-polarisation.ensures ∙ text_there 2 101 r (omega arith)) k;
       gain = c.read_tenths-gain.ensures k;
       ground = c.read_ground-ground.ensures k;
-      horizontal = (c.text7-horizontal.ensures ∙ text_there 7 111 r (omega arith)) k;
-      vertical = (c.text7-vertical.ensures ∙ text_there 7 118 r (omega arith)) k;
+      horizontal = (c.text-horizontal.ensures ∙ text_there 7 111 r (omega arith)) k;
+      vertical = (c.text-vertical.ensures ∙ text_there 7 118 r (omega arith)) k;
     }

@@ -17,8 +17,8 @@ returns c =
     λ k. record {
       transmit = c.read_frequency-transmit.ensures k;
       category = sym (head_field 1 12 r (omega arith)) k;
-      class = (c.text2-class.ensures ∙ text_there 2 13 r (omega arith)) k;
-      service = (c.text2-service.ensures ∙ text_there 2 15 r (omega arith)) k;
-      users = (c.text2-users.ensures ∙ text_there 2 17 r (omega arith)) k;
+      class = (c.text-class.ensures ∙ text_there 2 13 r (omega arith)) k;
+      service = (c.text-service.ensures ∙ text_there 2 15 r (omega arith)) k;
+      users = (c.text-users.ensures ∙ text_there 2 17 r (omega arith)) k;
       carrier = sym (head_field 1 19 r (omega arith)) k;
     }

@@ -16,9 +16,9 @@ returns c =
     let l : length r ≡ 219 = c.requires in
     λ k. record {
       receive = c.read_frequency-receive.ensures k;
-      remarks = (c.text50-remarks.ensures ∙ text_there 50 137 r (omega arith)) k;
+      remarks = (c.text-remarks.ensures ∙ text_there 50 137 r (omega arith)) k;
       status = sym (head_field 1 187 r (omega arith)) k;
       requested = c.day_in-requested.ensures k;
       coordinated = c.day_in-coordinated.ensures k;
-      reference = (c.text15-reference.ensures ∙ text_there 15 204 r (omega arith)) k;
+      reference = (c.text-reference.ensures ∙ text_there 15 204 r (omega arith)) k;
     }

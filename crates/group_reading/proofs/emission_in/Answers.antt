@@ -15,7 +15,7 @@ returns c =
     let r = c.args.rec.now in
     let l : length r ≡ 219 = c.requires in
     λ k. record {
-      designation = (c.text9-designation.ensures ∙ text_there 9 75 r (omega arith)) k;
+      designation = (c.text-designation.ensures ∙ text_there 9 75 r (omega arith)) k;
       power = c.read_tenths-power.ensures k;
       basis = sym (head_field 1 90 r (omega arith)) k;
       azimuth = c.read_tenths-azimuth.ensures k;

@@ -23,8 +23,8 @@ returns c =
     let l : length r ≡ 219 = c.requires.0 in
     λ k. record {
       started = c.day_in-started.ensures k;
-      name = (c.text20-name.ensures ∙ text_there 20 28 r (omega arith)) k;
-      country = (c.text3-country.ensures ∙ text_there 3 48 r (omega arith)) k;
+      name = (c.text-name.ensures ∙ text_there 20 28 r (omega arith)) k;
+      country = (c.text-country.ensures ∙ text_there 3 48 r (omega arith)) k;
       position = c.position_in-position.ensures k;
       radius = c.read_radius-radius.ensures k;
       height = c.read_height-height.ensures k;

@@ -2,10 +2,10 @@
 use Rattle.days.specs.Dates.{date_fits}
 use Rattle.header_dates.proofs.fits_date.Goals as goal
 
-pub returns-in-Blank : goal.returns-in-Blank
+pub returns-in-None : goal.returns-in-None
 unfolding date_fits
-returns-in-Blank c = rw c.in-Blank.is
+returns-in-None c = rw c.in-None.is
 
-pub returns-in-Filled : goal.returns-in-Filled
+pub returns-in-Some : goal.returns-in-Some
 unfolding date_fits
-returns-in-Filled c = rw c.in-Filled.is c.is_date.ensures
+returns-in-Some c = rw c.in-Some.is c.is_date.ensures

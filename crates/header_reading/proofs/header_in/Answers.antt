@@ -8,8 +8,8 @@ use Rattle.header.specs.Codes.{header_value}
 use native.Mathlib.Omega.{arith}
 use Rattle.header_reading.proofs.header_in.Goals as goal
 
-pub slice_bounds-text7-end : goal.slice_bounds-text7-end
-slice_bounds-text7-end c = omega (arith, c.requires)
+pub slice_bounds-text-end : goal.slice_bounds-text-end
+slice_bounds-text-end c = omega (arith, c.requires)
 
 pub returns : goal.returns
 unfolding header_value header_of header_fields
@@ -18,16 +18,16 @@ returns c =
     let l : length r ≡ 219 = c.requires in
     λ k. record {
       number = c.amount_in-number.ensures k;
-      content = (c.text80-content.ensures ∙ text_there 80 2 r (omega arith)) k;
+      content = (c.text-content.ensures ∙ text_there 80 2 r (omega arith)) k;
       letter = c.byte-letter.ensures k;
-      origin = (c.text3-origin.ensures ∙ text_there 3 83 r (omega arith)) k;
-      mail = (c.text40-mail.ensures ∙ text_there 40 86 r (omega arith)) k;
-      telephone = (c.text20-telephone.ensures ∙ text_there 20 126 r (omega arith)) k;
-      person = (c.text20-person.ensures ∙ text_there 20 166 r (omega arith)) k;
+      origin = (c.text-origin.ensures ∙ text_there 3 83 r (omega arith)) k;
+      mail = (c.text-mail.ensures ∙ text_there 40 86 r (omega arith)) k;
+      telephone = (c.text-telephone.ensures ∙ text_there 20 126 r (omega arith)) k;
+      person = (c.text-person.ensures ∙ text_there 20 166 r (omega arith)) k;
       count = c.amount_in-count.ensures k;
       date = c.day_in-date.ensures k;
-      destination = (c.text3-destination.ensures ∙ text_there 3 200 r (omega arith)) k;
+      destination = (c.text-destination.ensures ∙ text_there 3 200 r (omega arith)) k;
       serial = c.serial_in-serial.ensures k;
-      version = (c.text3-version.ensures ∙ text_there 3 209 r (omega arith)) k;
-      reserve = (c.text7-reserve.ensures ∙ text_there 7 212 r (omega arith)) k;
+      version = (c.text-version.ensures ∙ text_there 3 209 r (omega arith)) k;
+      reserve = (c.text-reserve.ensures ∙ text_there 7 212 r (omega arith)) k;
     }

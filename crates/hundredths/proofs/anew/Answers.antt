@@ -2,5 +2,5 @@
 use mathlib.Core.Path.{sym}
 use Rattle.hundredths.proofs.anew.Goals as goal
 
-pub returns-in-Filled : goal.returns-in-Filled
-returns-in-Filled c = sym c.in-Filled.is
+pub returns-in-Some : goal.returns-in-Some
+returns-in-Some c = sym c.in-Some.is

@@ -9,6 +9,3 @@ use Rattle.joining.proofs.put_line.Given as goal
 
 abbrev pub invariant-loop-k : goal.invariant-loop-k
 invariant-loop-k l = (length l.out ≡ 249) × Lined station_sides station_places l.rec l.out l.k l.column l.at
-
-abbrev pub decreases-loop-k : goal.decreases-loop-k
-decreases-loop-k l = 30 - l.k

@@ -1,9 +1,9 @@
 -- `number_flaws::amount_flaw` meets its contract: each arm is the flaw that the answer brings.
-use mathlib.Core.Path.{◌≡◌, sym, ◌∙◌}
+use native.Mathlib.Omega.{arith}
+use mathlib.Core.Path.{◌≡◌, sym, ◌∙◌, ap}
 use mathlib.Core.Bool.{false}
 use Prim.Native.Nat.{ℕ}
 use mathlib.Core.List.{List, []}
-use Rattle.numerals.specs.declared.Signed.{Signed}
 use Rattle.decimals.specs.Decimals.{magnitude_of, admits_decimal, decimal_of}
 use Rattle.frequencies.specs.Frequencies.{above_zero}
 use Rattle.fields.specs.Kinds.{amount}
@@ -14,17 +14,19 @@ use Rattle.numerals.proofs.Signs.{in_bits}
 use Rattle.number_flaws.specs.Answers.{number_flaw}
 use Rattle.number_flaws.proofs.AnswerLaws.{number_flaw_lem}
 use Rattle.number_flaws.proofs.amount_flaw.Goals as goal
+use Rattle.std.specs.Prelude.{Option, Result, Ok, ℤ}
+use Rattle.flaws.specs.declared.Flaw.{Flaw}
 
 -- the answer's flaw is the field's
-brings : (p : List ℕ) (v : Signed) → decimal_of 5 5 false p ≡ v → number_flaw above_zero v ≡ flaw_at 1 [] p
+brings : (p : List ℕ) (v : Result (Option ℤ) Flaw) → decimal_of 5 5 false p ≡ v → number_flaw above_zero v ≡ flaw_at 1 [] p
 unfolding decimal_of
 brings p v e = number_flaw_lem (admits_decimal false) above_zero (decimal_of 5 5 false) p (admitted amount 11 p) (number_carries false (admits_decimal false) (magnitude_of 5 5) p) v e
 
-pub returns-in-Bad : goal.returns-in-Bad
-returns-in-Bad c = brings _ _ (sym c.read_decimal.ensures ∙ c.in-Bad.is)
+pub returns-in-Err : goal.returns-in-Err
+returns-in-Err c = brings _ _ (sym c.read_decimal.ensures ∙ c.in-Err.is)
 
-pub returns-in-Blank : goal.returns-in-Blank
-returns-in-Blank c = brings _ _ (sym c.read_decimal.ensures ∙ c.in-Blank.is)
+pub returns-in-Ok-None : goal.returns-in-Ok-None
+returns-in-Ok-None c = brings _ _ (sym c.read_decimal.ensures ∙ c.in-Ok-None.is ∙ ap Ok c.in-Ok-None.field-0-is)
 
-pub returns-in-Filled : goal.returns-in-Filled
-returns-in-Filled c = c.range_flaw.ensures ∙ rw (c.magnitude.ensures, in_bits _ c.in-Filled.known_told-in-Filled-1-own.given.0.1) (brings _ _ (sym c.read_decimal.ensures ∙ c.in-Filled.is))
+pub returns-in-Ok-Some : goal.returns-in-Ok-Some
+returns-in-Ok-Some c = c.range_flaw.ensures ∙ rw (c.magnitude.ensures, in_bits c.in-Ok-Some.v (omega arith)) (brings _ _ (sym c.read_decimal.ensures ∙ c.in-Ok-Some.is ∙ ap Ok c.in-Ok-Some.field-0-is))

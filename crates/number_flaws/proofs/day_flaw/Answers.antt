@@ -3,11 +3,8 @@ use mathlib.Core.Path.{sym, ◌∙◌}
 use Rattle.number_flaws.proofs.AnswerLaws.{day_flaw_lem}
 use Rattle.number_flaws.proofs.day_flaw.Goals as goal
 
-pub returns-in-Bad : goal.returns-in-Bad
-returns-in-Bad c = day_flaw_lem _ _ (sym c.read_date.ensures ∙ c.in-Bad.is)
+pub returns-in-Err : goal.returns-in-Err
+returns-in-Err c = day_flaw_lem _ _ (sym c.read_date.ensures ∙ c.in-Err.is)
 
-pub returns-in-Blank : goal.returns-in-Blank
-returns-in-Blank c = day_flaw_lem _ _ (sym c.read_date.ensures ∙ c.in-Blank.is)
-
-pub returns-in-Filled : goal.returns-in-Filled
-returns-in-Filled c = day_flaw_lem _ _ (sym c.read_date.ensures ∙ c.in-Filled.is)
+pub returns-in-Ok : goal.returns-in-Ok
+returns-in-Ok c = day_flaw_lem _ _ (sym c.read_date.ensures ∙ c.in-Ok.is)

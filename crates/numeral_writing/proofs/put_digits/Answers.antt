@@ -1,6 +1,6 @@
 -- `numeral_writing::put_digits` meets its contract. The invariant: what is left to write, in front of what stands, is what was to be written.
 use Prim.Native.Nat.{ℕ, ◌+◌, ◌-◌, ◌/◌, ◌%◌}
-use mathlib.Core.Path.{◌≡◌, refl, sym, ap, ◌∙◌}
+use mathlib.Core.Path.{◌≡◌, sym, ap, ◌∙◌}
 use native.Mathlib.Omega.{arith}
 use lib.ListN.{set, drop, length-set}
 use lib.Seq.{take-set-le}
@@ -8,42 +8,6 @@ use Rattle.numerals.specs.Numbers.{spell_digits}
 use Rattle.numerals.proofs.Spelling.{spell_turn, div_turn, div_none, put-done}
 use Rattle.numeral_writing.proofs.PairLaws.{pair_turn, pair_left}
 use Rattle.numeral_writing.proofs.put_digits.Goals as goal
-
-pub loop-left-init : goal.loop-left-init
-loop-left-init c = (refl, omega arith, refl, refl, refl)
-
-pub overflow_sub-left : goal.overflow_sub-left
-overflow_sub-left c = omega arith
-
-pub overflow_cast-s : goal.overflow_cast-s
-overflow_cast-s c = omega arith
-
-pub overflow_add-s : goal.overflow_add-s
-overflow_add-s c = omega arith
-
-pub overflow_add-s-in-loop-left : goal.overflow_add-s-in-loop-left
-overflow_add-s-in-loop-left c = omega arith
-
-pub overflow_add-s-in-loop-left-2 : goal.overflow_add-s-in-loop-left-2
-overflow_add-s-in-loop-left-2 c = omega arith
-
-pub bounds-s-at : goal.bounds-s-at
-bounds-s-at c = omega arith
-
-pub overflow_cast-s-in-loop-left : goal.overflow_cast-s-in-loop-left
-overflow_cast-s-in-loop-left c = omega arith
-
-pub overflow_add-s-in-loop-left-3 : goal.overflow_add-s-in-loop-left-3
-overflow_add-s-in-loop-left-3 c = omega arith
-
-pub overflow_add-s-in-loop-left-4 : goal.overflow_add-s-in-loop-left-4
-overflow_add-s-in-loop-left-4 c = omega arith
-
-pub bounds-s-at-in-loop-left : goal.bounds-s-at-in-loop-left
-bounds-s-at-in-loop-left c = rw (length-set) (omega arith)
-
-pub loop-left-smaller : goal.loop-left-smaller
-loop-left-smaller c = omega arith
 
 pub loop-left-preserved : goal.loop-left-preserved
 loop-left-preserved c =
@@ -58,15 +22,6 @@ loop-left-preserved c =
 pub returns-then-left-eq0 : goal.returns-then-left-eq0
 returns-then-left-eq0 c =
     (sym (c.loop-left.invariant.4 ∙ div_none _ _ (omega arith)), put-done c.loop-left.s _ _ _ _ _ (omega arith) c.loop-left.invariant.2 c.loop-left.invariant.3)
-
-pub overflow_cast-s-2 : goal.overflow_cast-s-2
-overflow_cast-s-2 c = omega arith
-
-pub overflow_add-s-2 : goal.overflow_add-s-2
-overflow_add-s-2 c = omega arith
-
-pub bounds-s-at-2 : goal.bounds-s-at-2
-bounds-s-at-2 c = omega arith
 
 pub returns : goal.returns
 returns c =

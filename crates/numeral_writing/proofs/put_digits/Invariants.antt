@@ -1,5 +1,5 @@
 -- `numeral_writing::put_digits` meets its contract. The invariant: what is left to write, in front of what stands, is what was to be written.
-use Prim.Native.Nat.{◌≤◌, ◌^◌, ◌+◌, ◌-◌, ◌/◌}
+use Prim.Native.Nat.{◌≤◌, ◌^◌, ◌+◌, ◌/◌}
 use mathlib.Core.Path.{◌≡◌}
 use lib.ListN.{length, take, drop}
 use Rattle.numerals.specs.Numbers.{spell_digits}

@@ -3,22 +3,12 @@ use mathlib.Core.Path.{◌≡◌, ◌∙◌}
 use mir.Facts.{to_z-of_z}
 use Rattle.numerals.specs.Numbers.{is_negative, spell_signed}
 use Rattle.numerals.proofs.Spelling.{put-minus}
-use native.Mathlib.Omega.{arith}
 use Rattle.numeral_writing.proofs.put_signed.Goals as goal
 use Rattle.numeral_writing.proofs.put_signed.Goals.{After-is_negative}
 
 -- the sign was told
 told : (c : After-is_negative) → c.is_negative.result ≡ is_negative c.args.v
 told c = rw (to_z-of_z c.ranges.v) at c.is_negative.ensures
-
-pub overflow_sub-n : goal.overflow_sub-n
-overflow_sub-n c = c.requires
-
-pub put_digits-requires : goal.put_digits-requires
-put_digits-requires c = omega (arith, c.requires)
-
-pub bounds-s-0 : goal.bounds-s-0
-bounds-s-0 c = omega (arith, c.requires)
 
 pub returns-then-is_negative : goal.returns-then-is_negative
 unfolding spell_signed

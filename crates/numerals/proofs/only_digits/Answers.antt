@@ -5,10 +5,10 @@ use lib.ListN.{length}
 use borrow.Author.Tests.{eq-eqb, ne_eqb}
 use Rattle.columns.specs.Texts.{ended}
 use Rattle.numerals.specs.Numbers.{leading, whole_digits}
-use Rattle.numerals.specs.declared.Whole.TheVariants as whole
 use Rattle.columns.proofs.TextLaws.{ended-length, at_end, not_at_end}
 use Rattle.numerals.proofs.NumberLaws.{leading_inside}
 use Rattle.numerals.proofs.only_digits.Goals as goal
+use Rattle.std.specs.Prelude.{Some, Ok, ℕ}
 
 pub returns-then-n-eq0 : goal.returns-then-n-eq0
 unfolding whole_digits
@@ -23,7 +23,7 @@ returns-then-n-t c =
     let t = c.args.t.now in
     let l = leading 18 t in
     let some : ended l ≡ false = ended-length l ∙ ne_eqb (length l) 0 (λ e. c.if-n-eq0.false (c.digits-d.ensures.0 ∙ e)) in
-    rw (some, at_end t (length l) (sym c.digits-d.ensures.0 ∙ c.if-n-t.true)) (ap whole.Filled c.digits-d.ensures.1)
+    rw (some, at_end t (length l) (sym c.digits-d.ensures.0 ∙ c.if-n-t.true)) (ap (λ (n : ℕ). Ok (Some n)) c.digits-d.ensures.1)
 
 pub returns : goal.returns
 unfolding whole_digits

@@ -3,10 +3,10 @@ use native.Mathlib.Nat.{add-zero}
 use Rattle.operator_counts.specs.Counts.{added_to}
 use Rattle.operator_counts.proofs.added.Goals as goal
 
-pub returns-in-Blank : goal.returns-in-Blank
+pub returns-in-None : goal.returns-in-None
 unfolding added_to
-returns-in-Blank c = simp (c.in-Blank.is, c.anew.ensures, c.anew-in-Blank.ensures, add-zero)
+returns-in-None c = simp (c.in-None.is, c.anew.ensures, c.anew-in-None.ensures, add-zero)
 
-pub returns-in-Filled : goal.returns-in-Filled
+pub returns-in-Some : goal.returns-in-Some
 unfolding added_to
-returns-in-Filled c = simp (c.in-Filled.is, c.lower-low.ensures, c.higher-high.ensures)
+returns-in-Some c = simp (c.in-Some.is, c.lower-low.ensures, c.higher-high.ensures)

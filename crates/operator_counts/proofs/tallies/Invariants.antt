@@ -1,11 +1,7 @@
 -- `operator_counts::tallies` meets its contract: the table holds the tallies of the stations heard so far.
 use mathlib.Core.Path.{◌≡◌}
-use Prim.Native.Nat.{◌-◌, ◌≤◌}
 use Rattle.operator_counts.specs.Counts.{operators, heard_at, tally_of, tabled}
 use Rattle.operator_counts.proofs.tallies.Given as goal
 
 abbrev pub invariant-loop-i : goal.invariant-loop-i
-invariant-loop-i l = (l.i ≤ l.n) × (l.counts ≡ tabled (tally_of (heard_at l.file) l.i) operators)
-
-abbrev pub decreases-loop-i : goal.decreases-loop-i
-decreases-loop-i l = l.n - l.i
+invariant-loop-i l = l.counts ≡ tabled (tally_of (heard_at l.file) l.i) operators

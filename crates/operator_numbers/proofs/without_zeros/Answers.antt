@@ -1,21 +1,21 @@
--- `operator_numbers::without_zeros` meets its contract: with the places that are left, what is left of the fraction is shortened as the fraction is.
-use mathlib.Core.Path.{refl, sym, ◌∙◌}
+use mathlib.Core.Path.{sym, ◌∙◌}
 use Rattle.operator_numbers.proofs.NumberLaws.{short_stop, short_on, short_none}
 use native.Mathlib.Omega.{arith}
-use borrow.Author.Rules.{rules}
+use Prim.Native.Nat.{◌+◌, ◌-◌}
+use mathlib.Core.Path.{◌≡◌}
 use Rattle.operator_numbers.proofs.without_zeros.Goals as goal
-
-pub loop-left-init : goal.loop-left-init
-loop-left-init c = (search rules, refl)
 
 pub returns-then-digits-ne0 : goal.returns-then-digits-ne0
 returns-then-digits-ne0 c =
-    (sym (c.loop-left.invariant.1 ∙ short_stop c.loop-left.left c.loop-left.digits c.loop-left-test.true c.if-digits-ne0.true), omega (arith, c.loop-left.invariant.0))
+    let e : c.loop-places.places - 2 + 1 ≡ c.loop-places.places - 1 = omega arith in
+    let stop = rw e at (short_stop (c.loop-places.places - 2) c.loop-places.digits (omega arith) c.if-digits-ne0.true) in
+    (sym (c.loop-places.invariant ∙ stop), omega arith)
 
-pub loop-left-preserved : goal.loop-left-preserved
-loop-left-preserved c =
-    (search rules, c.loop-left.invariant.1 ∙ short_on c.loop-left.left c.loop-left.digits c.loop-left-test.true c.if-digits-ne0.false)
+pub loop-places-preserved : goal.loop-places-preserved
+loop-places-preserved c =
+    let e : c.loop-places.places - 1 - 2 ≡ c.loop-places.places - 2 - 1 = omega arith in
+    rw e (c.loop-places.invariant ∙ short_on (c.loop-places.places - 2) c.loop-places.digits (omega arith) c.if-digits-ne0.false)
 
 pub returns : goal.returns
 returns c =
-    (sym (c.loop-left.invariant.1 ∙ short_none c.loop-left.left c.loop-left.digits c.loop-left-test.false), omega arith)
+    (sym (c.loop-places.invariant ∙ short_none (c.loop-places.places - 2) c.loop-places.digits (omega arith)), omega arith)

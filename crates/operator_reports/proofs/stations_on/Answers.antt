@@ -9,14 +9,14 @@ use borrow.Author.Rules.{rules}
 use Rattle.operator_reports.proofs.stations_on.Goals as goal
 
 pub loop-i-init : goal.loop-i-init
-loop-i-init c = (search rules, refl, search rules)
+loop-i-init c = (refl, search rules)
 
 pub loop-i-preserved : goal.loop-i-preserved
 loop-i-preserved c =
     let page = c.args.page in
-    (search rules, rw (add-one c.loop-i.i) (ap (λ (y : OperatorRow). c.loop-i.sum + y.tally.stations) c.row_at-row.ensures ∙ ap (λ (m : ℕ). m + (page_row page c.loop-i.i).tally.stations) c.loop-i.invariant.1), search rules)
+    (rw (add-one c.loop-i.i) (ap (λ (y : OperatorRow). c.loop-i.sum + y.tally.stations) c.row_at.ensures ∙ ap (λ (m : ℕ). m + (page_row page c.loop-i.i).tally.stations) c.loop-i.invariant.0), search rules)
 
 pub returns : goal.returns
 returns c =
     let e : c.loop-i.i ≡ c.args.n = omega arith in
-    rw e at c.loop-i.invariant.1
+    rw e at c.loop-i.invariant.0

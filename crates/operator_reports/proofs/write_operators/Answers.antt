@@ -12,10 +12,10 @@ use native.Mathlib.Omega.{arith}
 use borrow.Author.Rules.{rules}
 use Rattle.operator_reports.proofs.write_operators.Goals as goal
 
-pub returns-then-not-is_done : goal.returns-then-not-is_done
-returns-then-not-is_done c =
+pub returns-then-is_err : goal.returns-then-is_err
+returns-then-is_err c =
     let file = c.args.file.now in
-    let no = stopped (answer_is file operators c.page_for-page.result c.page_for-page.ensures).0 c.is_done.ensures c.if-not-is_done.true-raw in
+    let no = stopped (answer_is file operators c.page_for-page.result c.page_for-page.ensures).0 c.is_err.ensures.value c.if-is_err.true in
     written (refused_lines file c.page_for-page.result c.page_for-page.ensures no ∙ ap (λ (r : ℕ). refused_line r) (sym c.refusal_number.ensures)) c.put_refused.ensures
 
 pub put_lines-requires : goal.put_lines-requires
@@ -26,5 +26,5 @@ put_lines-requires c =
 pub returns : goal.returns
 returns c =
     let file = c.args.file.now in
-    let yes = went_on (answer_is file operators c.page_for-page.result c.page_for-page.ensures).0 c.is_done.ensures c.if-not-is_done.false-raw in
+    let yes = went_on (answer_is file operators c.page_for-page.result c.page_for-page.ensures).0 c.is_err.ensures.value c.if-is_err.false in
     written (whole_lines file c.page_for-page.result c.page_for-page.ensures yes _ c.stations_in.ensures) c.put_lines.ensures

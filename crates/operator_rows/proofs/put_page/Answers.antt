@@ -30,7 +30,7 @@ bounds-rows-i c = omega (arith, (page_rows_fit c.args.file.now (length c.args.ro
 pub returns : goal.returns
 returns c =
     let page = c.page_for-page.result in
-    let n : c.loop-i.i ≡ page.answer.rows = omega (arith, c.loop-i.invariant.0, c.loop-i-test.false) in (
+    let n : c.loop-i.i ≡ page.answer.rows = omega (arith, c.loop-i.auto.i-end, c.loop-i-test.false) in (
       page_answered c.args.file.now (length c.args.rows.now) page c.page_for-page.ensures,
-      c.loop-i.invariant.1 ∙ rw n (page_put c.args.file.now c.args.rows.now page c.page_for-page.ensures),
+      c.loop-i.invariant ∙ rw n (page_put c.args.file.now c.args.rows.now page c.page_for-page.ensures),
     )

@@ -12,12 +12,12 @@ use Rattle.flaws.specs.declared.Flaw.{Flaw}
 use Rattle.flaws.specs.declared.Flaw.TheVariants as flaw
 use Rattle.numerals.specs.Numbers.{whole_filled}
 use Rattle.positions.specs.Positions.{arc_good, position_good, position_of, admits_position, position_reads, unread_position, located_of}
-use Rattle.positions.specs.declared.Located.TheVariants as located
 use Rattle.positions.proofs.ArcLaws.{arc_good_lem, arc_reads_lem, arc_value, arc_few}
 use Rattle.positions.proofs.Letters.{places-letters}
 use Rattle.numerals.proofs.Signs.{in_bits}
 use Rattle.positions.proofs.read_position.Goals as goal
 use Rattle.positions.proofs.read_position.Goals.{After-arc_in-north, After-is_arc, After-is_arc-2, Else-s-ne15}
+use Rattle.std.specs.Prelude.{Err}
 
 -- fifteen columns
 long : (c : Else-s-ne15) → sized 15 c.args.s.now ≡ true
@@ -48,17 +48,17 @@ wrong c long rest r h =
 
 pub returns-then-s-ne15 : goal.returns-then-s-ne15
 unfolding located_of position_good unread_position position_reads
-returns-then-s-ne15 c = rw (ne_eqb _ _ c.if-s-ne15.true) (ap located.Bad (c.unread_of.ensures ∙ places-letters _))
+returns-then-s-ne15 c = rw (ne_eqb _ _ c.if-s-ne15.true) (ap Err (c.unread_of.ensures ∙ places-letters _))
 
 pub returns-then-not-is_arc : goal.returns-then-not-is_arc
 unfolding located_of position_good
 returns-then-not-is_arc c =
-    rw ((long (goal.at.returns-then-not-is_arc c).Else-s-ne15), ← (east (goal.at.returns-then-not-is_arc c).After-is_arc), not-true c.is_arc.result c.if-not-is_arc.true-raw) (ap located.Bad ((wrong (goal.at.returns-then-not-is_arc c).After-arc_in-north (long (goal.at.returns-then-not-is_arc c).Else-s-ne15) (rest (goal.at.returns-then-not-is_arc c).Else-s-ne15)) _ c.unread_position.ensures))
+    rw ((long (goal.at.returns-then-not-is_arc c).Else-s-ne15), ← (east (goal.at.returns-then-not-is_arc c).After-is_arc), not-true c.is_arc.result c.if-not-is_arc.true-raw) (ap Err ((wrong (goal.at.returns-then-not-is_arc c).After-arc_in-north (long (goal.at.returns-then-not-is_arc c).Else-s-ne15) (rest (goal.at.returns-then-not-is_arc c).Else-s-ne15)) _ c.unread_position.ensures))
 
 pub returns-then-not-is_arc-2 : goal.returns-then-not-is_arc-2
 unfolding located_of position_good
 returns-then-not-is_arc-2 c =
-    rw ((long (goal.at.returns-then-not-is_arc-2 c).Else-s-ne15), ← (east (goal.at.returns-then-not-is_arc-2 c).After-is_arc), not-false c.is_arc.result c.if-not-is_arc.false-raw, ← (north (goal.at.returns-then-not-is_arc-2 c).After-is_arc-2 (rest (goal.at.returns-then-not-is_arc-2 c).Else-s-ne15)), not-true c.is_arc-2.result c.if-not-is_arc-2.true-raw) (ap located.Bad ((wrong (goal.at.returns-then-not-is_arc-2 c).After-arc_in-north (long (goal.at.returns-then-not-is_arc-2 c).Else-s-ne15) (rest (goal.at.returns-then-not-is_arc-2 c).Else-s-ne15)) _ c.unread_position-then-not-is_arc-2.ensures))
+    rw ((long (goal.at.returns-then-not-is_arc-2 c).Else-s-ne15), ← (east (goal.at.returns-then-not-is_arc-2 c).After-is_arc), not-false c.is_arc.result c.if-not-is_arc.false-raw, ← (north (goal.at.returns-then-not-is_arc-2 c).After-is_arc-2 (rest (goal.at.returns-then-not-is_arc-2 c).Else-s-ne15)), not-true c.is_arc-2.result c.if-not-is_arc-2.true-raw) (ap Err ((wrong (goal.at.returns-then-not-is_arc-2 c).After-arc_in-north (long (goal.at.returns-then-not-is_arc-2 c).Else-s-ne15) (rest (goal.at.returns-then-not-is_arc-2 c).Else-s-ne15)) _ c.unread_position-then-not-is_arc-2.ensures))
 
 pub arc_seconds-requires : goal.arc_seconds-requires
 arc_seconds-requires c = arc_few 3 _ c.arc_in-east.ensures "EW" 180 (sym (east (goal.at.arc_seconds-requires c).After-is_arc) ∙ c.if-not-is_arc.false) (omega arith)

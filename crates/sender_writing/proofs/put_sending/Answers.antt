@@ -7,18 +7,18 @@ use Rattle.numerals.specs.Numbers.{spell_whole}
 use Rattle.days.specs.Dates.{day_fits, spell_day, date_fits}
 use Rattle.header.specs.Spelling.{header_pieces}
 use Rattle.basics.proofs.WriteLaws.{nothing_yet, then_fitting, then_text, then-sized, all_written}
-use Rattle.days.specs.declared.dates.Day.{Day}
-use Rattle.days.specs.declared.dates.Day.TheVariants as day
 use native.Mathlib.Omega.{arith}
 use borrow.Author.Rules.{rules}
 use Rattle.sender_writing.proofs.put_sending.Goals as goal
 use Rattle.sender_writing.proofs.put_sending.Goals.{Start}
+use Rattle.std.specs.Prelude.{Option, Some, None}
+use Rattle.days.specs.declared.dates.Date.{Date}
 
 -- a date that may not be blank fits where it may
-may_stand : (v : Day) → date_fits v ≡ true → day_fits v ≡ true
+may_stand : (v : Option Date) → date_fits v ≡ true → day_fits v ≡ true
 unfolding date_fits day_fits
-may_stand day.Blank e = absurd (false≢true e)
-may_stand (day.Filled d) e = e
+may_stand None e = absurd (false≢true e)
+may_stand (Some d) e = e
 
 -- the texts have the width of their columns
 destination_wide : (c : Start) → length c.args.h.destination ≡ 3

@@ -2,10 +2,10 @@
 use Rattle.serials.specs.Serials.{serial_fits}
 use Rattle.serials.proofs.fits_serial.Goals as goal
 
-pub returns-in-Blank : goal.returns-in-Blank
+pub returns-in-None : goal.returns-in-None
 unfolding serial_fits
-returns-in-Blank c = rw c.in-Blank.is
+returns-in-None c = rw c.in-None.is
 
-pub returns-in-Filled : goal.returns-in-Filled
+pub returns-in-Some : goal.returns-in-Some
 unfolding serial_fits
-returns-in-Filled c = rw c.in-Filled.is c.fits_whole.ensures
+returns-in-Some c = rw c.in-Some.is c.fits_whole.ensures

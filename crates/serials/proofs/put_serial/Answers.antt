@@ -6,10 +6,10 @@ use Rattle.numerals.specs.Numbers.{spell_whole}
 use Rattle.serials.specs.Serials.{spell_serial}
 use Rattle.serials.proofs.put_serial.Goals as goal
 
-pub returns-in-Blank : goal.returns-in-Blank
+pub returns-in-None : goal.returns-in-None
 unfolding spell_serial
-returns-in-Blank c = rw c.in-Blank.is (c.write_blank.ensures ∙ ap (λ (n : ℕ). replicate n 32) c.requires)
+returns-in-None c = rw c.in-None.is (c.write_blank.ensures ∙ ap (λ (n : ℕ). replicate n 32) c.requires)
 
-pub returns-in-Filled : goal.returns-in-Filled
+pub returns-in-Some : goal.returns-in-Some
 unfolding spell_serial
-returns-in-Filled c = rw c.in-Filled.is (c.put_whole.ensures ∙ ap (λ (n : ℕ). spell_whole n c.in-Filled.n) c.requires)
+returns-in-Some c = rw c.in-Some.is (c.put_whole.ensures ∙ ap (λ (n : ℕ). spell_whole n c.in-Some.n) c.requires)

@@ -1,14 +1,9 @@
 -- `sheet_rows::put_row` meets its contract: the row stands in its own bytes, and the others are kept.
-use mathlib.Core.Path.{◌≡◌, ◌∙◌}
+use mathlib.Core.Path.{◌≡◌}
 use Prim.Native.Nat.{◌+◌, ◌*◌, ◌-◌}
 use native.Mathlib.Nat.{add-sub_cancel_left}
-use native.Mathlib.Omega.{arith}
-use lib.ListN.{length}
 use lib.Seq.{drop-drop}
-use borrow.Rule.Slice.PartMut.{mid_len, mid_of}
 use Rattle.forms.specs.OwnForm.{row_width}
-use Rattle.forms.proofs.CopyLaws.{copy_all}
-use borrow.Author.Rules.{rules}
 use Rattle.sheet_rows.proofs.put_row.Goals as goal
 
 pub returns : goal.returns

@@ -2,5 +2,5 @@
 use Rattle.numerals.proofs.Signs.{in_bits}
 use Rattle.spans.proofs.said_height.Goals as goal
 
-pub returns-in-Filled : goal.returns-in-Filled
-returns-in-Filled c = rw (c.range_flaw.ensures, c.in_span.ensures, in_bits c.in-Filled.m.0 c.struct_told-1.given.0.1, c.in-Filled.is)
+pub returns-in-Some : goal.returns-in-Some
+returns-in-Some c = rw (c.range_flaw.ensures, c.in_span.ensures, in_bits c.in-Some.m.0 c.struct_told-1.given.0.1, c.in-Some.is)

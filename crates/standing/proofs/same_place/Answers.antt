@@ -2,18 +2,14 @@
 use Rattle.standing.specs.Standing.{same_place}
 use Rattle.standing.proofs.same_place.Goals as goal
 
-pub returns-in-Bad-b : goal.returns-in-Bad-b
+pub returns-in-Ok-b : goal.returns-in-Ok-b
 unfolding same_place
-returns-in-Bad-b c = rw (c.in-Bad.is, c.in-Bad-b.is)
+returns-in-Ok-b c = rw (c.in-Ok.is, c.in-Ok-b.is) c.same_position.ensures
 
-pub returns-in-Filled-b : goal.returns-in-Filled-b
+pub returns-in-Err-b : goal.returns-in-Err-b
 unfolding same_place
-returns-in-Filled-b c = rw (c.in-Bad.is, c.in-Filled-b.is)
+returns-in-Err-b c = rw (c.in-Ok.is, c.in-Err-b.is)
 
-pub returns-in-Bad-b-2 : goal.returns-in-Bad-b-2
+pub returns-in-Err : goal.returns-in-Err
 unfolding same_place
-returns-in-Bad-b-2 c = rw (c.in-Filled.is, c.in-Bad-b-2.is)
-
-pub returns-in-Filled-b-2 : goal.returns-in-Filled-b-2
-unfolding same_place
-returns-in-Filled-b-2 c = rw (c.in-Filled.is, c.in-Filled-b-2.is) c.same_position.ensures
+returns-in-Err c = rw (c.in-Err.is, c.is_err.ensures.value)

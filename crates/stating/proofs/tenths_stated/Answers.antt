@@ -8,6 +8,6 @@ pub returns-then-filled-eq0 : goal.returns-then-filled-eq0
 unfolding tenths_stated
 returns-then-filled-eq0 c = rw c.if-filled-eq0.true
 
-pub returns : goal.returns
+pub returns-else-filled-eq0 : goal.returns-else-filled-eq0
 unfolding tenths_stated
-returns c = rw (ne_eqb c.args.filled 0 c.if-filled-eq0.false, to_z-of_z c.ranges.tenths)
+returns-else-filled-eq0 c = rw (ne_eqb c.args.filled 0 c.if-filled-eq0.false, to_z-of_z c.ranges.tenths)

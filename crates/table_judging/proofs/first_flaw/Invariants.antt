@@ -10,6 +10,3 @@ use Rattle.table_judging.proofs.first_flaw.Given as goal
 
 abbrev pub invariant-loop-i : goal.invariant-loop-i
 invariant-loop-i l = let rules = flawless_all (flaws_by l.entries l.rec l.rows) in first_broken 1 rules ≡ first_broken (1 + l.i) (drop l.i rules)
-
-abbrev pub decreases-loop-i : goal.decreases-loop-i
-decreases-loop-i l = length l.entries - l.i

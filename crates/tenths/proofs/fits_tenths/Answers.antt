@@ -8,17 +8,17 @@ use Rattle.tenths.proofs.fits_tenths.Goals as goal
 use Rattle.tenths.proofs.fits_tenths.Goals.{After-fits_decimal}
 
 -- the digits have their places as the format has them
-fitted : (c : After-fits_decimal) → c.fits_decimal.result ≡ format_fits c.args.format c.in-Filled.z
-fitted c = rw (in_bits c.in-Filled.z c.in-Filled.known_told-1-own.given.0.1) at c.fits_decimal.ensures
+fitted : (c : After-fits_decimal) → c.fits_decimal.result ≡ format_fits c.args.format c.in-Some.z
+fitted c = rw (in_bits c.in-Some.z c.in-Some.known_told-1-own.given.0.1) at c.fits_decimal.ensures
 
 pub returns-then-not-fits_decimal : goal.returns-then-not-fits_decimal
-returns-then-not-fits_decimal c = fit_not c.args.format _ c.in-Filled.is (sym (fitted (goal.at.returns-then-not-fits_decimal c).After-fits_decimal) ∙ c.if-not-fits_decimal.true)
+returns-then-not-fits_decimal c = fit_not c.args.format _ c.in-Some.is (sym (fitted (goal.at.returns-then-not-fits_decimal c).After-fits_decimal) ∙ c.if-not-fits_decimal.true)
 
-pub returns-in-Blank : goal.returns-in-Blank
+pub returns-in-None : goal.returns-in-None
 unfolding tenths_fit
-returns-in-Blank c = rw c.in-Blank.is
+returns-in-None c = rw c.in-None.is
 
 pub returns-else-not-fits_decimal : goal.returns-else-not-fits_decimal
 returns-else-not-fits_decimal c =
-    fit_range c.args.format _ c.in-Filled.is (sym (fitted (goal.at.returns-else-not-fits_decimal c).After-fits_decimal) ∙ c.if-not-fits_decimal.false)
-    (rw (in_bits c.in-Filled.z c.in-Filled.known_told-1-own.given.0.1) at c.in_range.ensures)
+    fit_range c.args.format _ c.in-Some.is (sym (fitted (goal.at.returns-else-not-fits_decimal c).After-fits_decimal) ∙ c.if-not-fits_decimal.false)
+    (rw (in_bits c.in-Some.z c.in-Some.known_told-1-own.given.0.1) at c.in_range.ensures)

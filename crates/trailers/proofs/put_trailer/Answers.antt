@@ -1,13 +1,10 @@
 -- `trailers::put_trailer` meets its contract: its bytes copied behind the rows that they tell of.
 use mathlib.Core.Path.{◌≡◌, ap, ◌∙◌}
-use Prim.Native.Nat.{◌-◌, ◌*◌}
+use Prim.Native.Nat.{◌*◌}
 use lib.ListN.{length}
-use borrow.Rule.Slice.PartMut.{mid_len, mid_of}
 use Rattle.forms.specs.Forms.{trailer_of, closed}
-use Rattle.forms.proofs.CopyLaws.{copy_all, back_from}
-use native.Mathlib.Omega.{arith}
+use Rattle.forms.proofs.CopyLaws.{back_from}
 use Rattle.forms.specs.OwnForm.{row_width, trailer_length}
-use borrow.Author.Rules.{rules}
 use Rattle.trailers.proofs.put_trailer.Goals as goal
 
 pub returns : goal.returns

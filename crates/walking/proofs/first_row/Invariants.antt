@@ -7,6 +7,3 @@ use Rattle.walking.proofs.first_row.Given as goal
 
 abbrev pub invariant-loop-j : goal.invariant-loop-j
 invariant-loop-j l = first_row l.entries l.rec l.low l.high l.rows ≡ first_row l.entries l.rec l.low l.high (drop l.j l.rows)
-
-abbrev pub decreases-loop-j : goal.decreases-loop-j
-decreases-loop-j l = length l.rows - l.j

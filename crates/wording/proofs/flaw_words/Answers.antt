@@ -1,25 +1,7 @@
--- `wording::flaw_words` meets its contract, flaw by flaw.
-use mathlib.Core.Path.{refl, sym, ap}
-use Rattle.columns.specs.Texts.{skip, trimmed}
+-- `wording::flaw_words` meets its contract: the words end in no space, so that they are what is left of them with spaces behind them.
 use Rattle.wording.specs.Words.{flaw_words}
+use Rattle.wording.proofs.NameLaws.{padding_off, words_whole}
 use Rattle.wording.proofs.flaw_words.Goals as goal
 
-pub returns-in-None : goal.returns-in-None
-unfolding trimmed skip
-returns-in-None c = (sym (ap flaw_words c.in-None.is), refl)
-
-pub returns-in-Byte : goal.returns-in-Byte
-unfolding trimmed skip
-returns-in-Byte c = (sym (ap flaw_words c.in-Byte.is), refl)
-
-pub returns-in-Range : goal.returns-in-Range
-unfolding trimmed skip
-returns-in-Range c = (sym (ap flaw_words c.in-Range.is), refl)
-
-pub returns-in-Shape : goal.returns-in-Shape
-unfolding trimmed skip
-returns-in-Shape c = (sym (ap flaw_words c.in-Shape.is), refl)
-
-pub returns-in-Between : goal.returns-in-Between
-unfolding trimmed skip
-returns-in-Between c = (sym (ap flaw_words c.in-Between.is), refl)
+pub returns : goal.returns
+returns c = padding_off 18 _ _ (flaw_words c.args.flaw) c.padded.ensures c.flaw_text.ensures.upper_bound c.flaw_text.ensures.value (words_whole c.args.flaw)

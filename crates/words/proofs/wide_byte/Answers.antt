@@ -1,13 +1,9 @@
 -- `words::wide_byte` meets its contract: a byte is below 256.
-use mathlib.Core.Path.{refl}
 use native.Mathlib.Omega.{arith}
 use Rattle.words.proofs.wide_byte.Goals as goal
 
-pub overflow_cast-result : goal.overflow_cast-result
-overflow_cast-result c = omega (arith, c.shared_slice_known-1.given c.args.at)
-
 pub returns : goal.returns
 returns c = record {
-  value = refl;
+  value = c.from.ensures;
   upper_bound = omega (arith, c.shared_slice_known-1.given c.args.at);
 }

@@ -17,7 +17,7 @@ overflow_cast-at c =
 pub same_key-requires : goal.same_key-requires
 same_key-requires c =
     let b : c.loop-j.j < c.args.k = way_below c.args.key c.args.file.now c.args.nexts.now c.args.start c.args.k c.requires.startable _ c.loop-j.invariant in
-    (omega (arith, b, c.requires.record_length_in_bounds), c.requires.record_length_in_bounds)
+    (omega (arith, b, c.requires.has_record), c.requires.has_record)
 
 pub returns-then-same_key : goal.returns-then-same_key
 returns-then-same_key c =

@@ -1,11 +1,7 @@
 -- `columns::texts::is_framed` meets its contract: what was found so far holds of the bytes that were passed.
-use Prim.Native.Nat.{◌-◌}
-use mathlib.Core.Path.{refl, sym, ◌∙◌}
+use mathlib.Core.Path.{sym, ◌∙◌}
 use Rattle.columns.proofs.PlaceLaws.{framed_next, framed_done}
 use Rattle.columns.proofs.texts.is_framed.Goals as goal
-
-pub loop-i-init : goal.loop-i-init
-loop-i-init c = refl
 
 pub loop-i-preserved : goal.loop-i-preserved
 loop-i-preserved c =

@@ -1,14 +1,10 @@
 -- `columns::texts::is_framed` meets its contract: what was found so far holds of the bytes that were passed.
-use Prim.Native.Nat.{◌-◌}
 use mathlib.Core.Path.{◌≡◌}
 use mathlib.Core.Bool.{◌&&◌}
-use lib.ListN.{length, drop}
+use lib.ListN.{drop}
 use Rattle.columns.specs.Texts.{each}
 use Rattle.columns.specs.Frames.{frames}
 use Rattle.columns.proofs.texts.is_framed.Given as goal
 
 abbrev pub invariant-loop-i : goal.invariant-loop-i
 invariant-loop-i l = each (frames l.low l.high) l.s ≡ (l.all && each (frames (drop l.i l.low) (drop l.i l.high)) (drop l.i l.s))
-
-abbrev pub decreases-loop-i : goal.decreases-loop-i
-decreases-loop-i l = length l.s - l.i

@@ -5,8 +5,5 @@ use lib.ListN.{length, take}
 use Rattle.columns.specs.Texts.{trimmed}
 use Rattle.columns.proofs.texts.trimmed_length.Given as goal
 
-abbrev pub invariant-loop-n : goal.invariant-loop-n
-invariant-loop-n l = (l.n ≤ length l.s) × (trimmed l.s ≡ trimmed (take l.n l.s))
-
-abbrev pub decreases-loop-n : goal.decreases-loop-n
-decreases-loop-n l = l.n
+abbrev pub invariant-loop-i : goal.invariant-loop-i
+invariant-loop-i l = (l.i ≤ length l.s) × (trimmed l.s ≡ trimmed (take l.i l.s))

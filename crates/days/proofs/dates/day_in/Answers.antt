@@ -2,14 +2,6 @@
 use Rattle.days.specs.Dates.{day_of}
 use Rattle.days.proofs.dates.day_in.Goals as goal
 
-pub returns-in-Bad : goal.returns-in-Bad
+pub returns : goal.returns
 unfolding day_of
-returns-in-Bad c = rw (← c.read_date.ensures, c.in-Bad.is)
-
-pub returns-in-Blank : goal.returns-in-Blank
-unfolding day_of
-returns-in-Blank c = rw (← c.read_date.ensures, c.in-Blank.is)
-
-pub returns-in-Filled : goal.returns-in-Filled
-unfolding day_of
-returns-in-Filled c = rw (← c.read_date.ensures, c.in-Filled.is)
+returns c = rw (c.unwrap_or.ensures, c.read_date.ensures)

@@ -3,10 +3,10 @@ use mathlib.Core.Path.{sym, ap, ◌∙◌}
 use Rattle.days.specs.Dates.{day_fits}
 use Rattle.days.proofs.dates.fits_day.Goals as goal
 
-pub returns-in-Blank : goal.returns-in-Blank
+pub returns-in-None : goal.returns-in-None
 unfolding day_fits
-returns-in-Blank c = sym (ap day_fits c.in-Blank.is)
+returns-in-None c = sym (ap day_fits c.in-None.is)
 
-pub returns-in-Filled : goal.returns-in-Filled
+pub returns-in-Some : goal.returns-in-Some
 unfolding day_fits
-returns-in-Filled c = c.is_date.ensures ∙ sym (ap day_fits c.in-Filled.is)
+returns-in-Some c = c.is_date.ensures ∙ sym (ap day_fits c.in-Some.is)

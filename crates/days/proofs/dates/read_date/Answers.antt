@@ -6,11 +6,11 @@ use borrow.Author.Tests.{eq-eqb, ne_eqb, not-true, not-false}
 use Rattle.columns.specs.Sets.{is_digit}
 use Rattle.columns.specs.Texts.{blank, each}
 use Rattle.days.specs.Dates.{date_reads, unread_date, date_of}
-use Rattle.days.specs.declared.dates.Dated.TheVariants as dated
 use Rattle.columns.proofs.TextLaws.{each-replicate}
 use Rattle.numerals.proofs.Letters.{plain-whole}
 use Rattle.days.proofs.dates.read_date.Goals as goal
 use Rattle.days.proofs.dates.read_date.Goals.{Else-not-all_in}
+use Rattle.std.specs.Prelude.{Err}
 
 -- something is there
 filled : (c : Else-not-all_in) → blank c.args.s.now ≡ false
@@ -27,12 +27,12 @@ returns-then-is_blank c = rw (← c.is_blank.ensures, c.if-is_blank.true)
 pub returns-then-s-ne8 : goal.returns-then-s-ne8
 unfolding date_of date_reads unread_date
 returns-then-s-ne8 c =
-    rw (← c.is_blank.ensures, c.if-is_blank.false, each-replicate 8 is_digit, ne_eqb _ _ c.if-s-ne8.true) (ap dated.Bad (c.unread_of.ensures ∙ plain-whole _))
+    rw (← c.is_blank.ensures, c.if-is_blank.false, each-replicate 8 is_digit, ne_eqb _ _ c.if-s-ne8.true) (ap Err (c.unread_of.ensures ∙ plain-whole _))
 
 pub returns-then-not-all_in : goal.returns-then-not-all_in
 unfolding date_of date_reads unread_date
 returns-then-not-all_in c =
-    rw (← c.is_blank.ensures, c.if-is_blank.false, each-replicate 8 is_digit, eq-eqb _ _ c.if-s-ne8.false, ← c.all_in.ensures, not-true c.all_in.result c.if-not-all_in.true-raw) (ap dated.Bad (c.unread_of-then-not-all_in.ensures ∙ plain-whole _))
+    rw (← c.is_blank.ensures, c.if-is_blank.false, each-replicate 8 is_digit, eq-eqb _ _ c.if-s-ne8.false, ← c.all_in.ensures, not-true c.all_in.result c.if-not-all_in.true-raw) (ap Err (c.unread_of-then-not-all_in.ensures ∙ plain-whole _))
 
 pub date_in-d-requires : goal.date_in-d-requires
 date_in-d-requires c = (c.if-s-ne8.false, sym c.all_in.ensures ∙ c.if-not-all_in.false)

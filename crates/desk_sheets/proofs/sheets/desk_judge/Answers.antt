@@ -1,7 +1,6 @@
 -- `desk_sheets::sheets::desk_judge` meets its contract.
 use mathlib.Core.Path.{ap, ◌∙◌}
-use Rattle.basics.specs.Outcomes.{refusal}
-use Rattle.basics.specs.declared.Outcome.{Outcome}
+use Rattle.basics.specs.Outcomes.{refusal, Outcome}
 use Rattle.desk_sheets.proofs.sheets.desk_judge.Goals as goal
 
 pub returns : goal.returns

@@ -1,7 +1,6 @@
 -- `desk_sheets::sheets::desk_verify` meets its contract.
 use mathlib.Core.Path.{ap, ◌∙◌}
-use Rattle.basics.specs.Outcomes.{refusal}
-use Rattle.basics.specs.declared.Outcome.{Outcome}
+use Rattle.basics.specs.Outcomes.{refusal, Outcome}
 use Rattle.desk_sheets.specs.Promises.{finding_number, offset_with}
 use Rattle.verifying.specs.declared.verifying.Finding.{Finding}
 use Rattle.desk_sheets.proofs.sheets.desk_verify.Goals as goal

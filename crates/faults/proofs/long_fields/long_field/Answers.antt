@@ -26,7 +26,7 @@ loop-k-preserved c =
     let line = c.args.line.now in
     let field = field_here line c.loop-k.at c.field_length-length.result _ c.loop-k.invariant.inside (from_on line c.loop-k.at) c.field_length-length.ensures in
     let wide : c.station_place-place.result.length ≡ (get_or station_places c.loop-k.k (0, 0)).1 = ap (λ (p : Place). p.length) c.station_place-place.ensures ∙ columns_of station_places c.loop-k.k in
-    look_on station_places line c.loop-k.k c.loop-k.at c.loop-k.invariant c.loop-k-test.true _ _ _ field.0 wide c.if-most-length.false c.next_field-at.ensures.0 (c.next_field-at.ensures.1 ∙ field.2)
+    look_on station_places line c.loop-k.k c.loop-k.at c.loop-k.invariant c.loop-k-test.true _ _ _ field.0 wide c.if-most-length.false c.past-at.ensures.0 (c.past-at.ensures.1 ∙ field.2)
 
 pub returns : goal.returns
 unfolding long_field line_fields

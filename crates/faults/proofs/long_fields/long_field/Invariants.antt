@@ -6,6 +6,3 @@ use Rattle.faults.proofs.long_fields.long_field.Given as goal
 
 abbrev pub invariant-loop-k : goal.invariant-loop-k
 invariant-loop-k l = Looked station_places l.line l.k l.at
-
-abbrev pub decreases-loop-k : goal.decreases-loop-k
-decreases-loop-k l = 30 - l.k

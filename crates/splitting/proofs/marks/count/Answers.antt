@@ -1,22 +1,27 @@
 -- `splitting::marks::count` meets its contract: what was counted, and what is still to come, are all.
-use Prim.Native.Nat.{◌-◌}
+use Rattle.std.proofs.Common.{arith, ℕ, ◌≡◌, List, [], ◌∷◌, length, refl, ap, ◌∙◌, length-append}
 use lib.Dec.{eqb}
-use lib.ListN.{drop, length-drop}
-use lib.Seq.{length-take-le}
-use Rattle.semicolons.proofs.CountLaws.{count_part, count_end}
-use native.Mathlib.Omega.{arith}
+use Rattle.columns.specs.Texts.{how_many}
+use Rattle.semicolons.proofs.CountLaws.{how_many_append}
 use Rattle.splitting.proofs.marks.count.Goals as goal
 
-pub loop-i-init : goal.loop-i-init
-loop-i-init c = (omega arith, omega arith, omega arith)
+-- where nothing is left
+none : (test : ℕ → _) (rest : List ℕ) → length rest ≡ 0 → how_many test rest ≡ 0
+unfolding how_many
+none test [] e = refl
+none test (x ∷ rest) e = absurd (omega (arith, e))
 
-pub loop-i-preserved : goal.loop-i-preserved
-loop-i-preserved c =
-    let wide = length-take-le (c.short_end-end.result - c.loop-i.i) (drop c.loop-i.i c.args.line.now) (omega (arith, length-drop c.loop-i.i c.args.line.now, c.short_end-end.ensures.0, c.short_end-end.ensures.1)) in
-    let part = count_part (λ b. eqb b c.args.mark) c.args.line.now c.loop-i.i c.short_end-end.result (omega (arith, c.short_end-end.ensures.0)) in
-    (omega (arith, c.loop-i.invariant.0, c.count_few-few.ensures.0, wide, c.short_end-end.ensures.0), c.short_end-end.ensures.1, omega (arith, c.loop-i.invariant.2, c.count_few-few.ensures.1, part))
+pub loop-part-preserved : goal.loop-part-preserved
+loop-part-preserved c =
+    let s = c.in-Some.ensures.steps in
+    let all = ap length s.1.0 ∙ length-append c.in-Some.part.now c.next.new.self.rest.now in
+    let sums = ap (how_many (λ x. eqb x c.args.mark)) s.1.0 ∙ how_many_append (λ x. eqb x c.args.mark) c.in-Some.part.now c.next.new.self.rest.now in (
+      s.0 ∙ c.loop-part.invariant.0,
+      omega (arith, all, c.loop-part.invariant.1, c.count_few.ensures.0, c.from-n.ensures),
+      omega (arith, sums, c.loop-part.invariant.2, c.count_few.ensures.1, c.from-n.ensures),
+    )
 
 pub returns : goal.returns
 returns c =
-    let last = count_end c.args.mark c.args.line.now c.loop-i.i c.loop-i-test.false in
-    omega (arith, c.loop-i.invariant.2, last)
+    let left = none (λ x. eqb x c.args.mark) c.loop-part.part-iterator.rest.now c.in-None.ensures.steps.1.0 in
+    omega (arith, c.loop-part.invariant.2, left)

@@ -1,13 +1,12 @@
 -- `splitting::marks::count` meets its contract: what was counted, and what is still to come, are all.
-use Prim.Native.Nat.{◌+◌, ◌-◌, ◌≤◌}
+use Prim.Native.Nat.{◌+◌, ◌≤◌}
 use mathlib.Core.Path.{◌≡◌}
 use lib.Dec.{eqb}
-use lib.ListN.{length, drop}
+use lib.ListN.{length}
 use Rattle.columns.specs.Texts.{how_many}
 use Rattle.splitting.proofs.marks.count.Given as goal
 
-abbrev pub invariant-loop-i : goal.invariant-loop-i
-invariant-loop-i l = (l.n ≤ l.i) × (l.i ≤ length l.line) × (l.n + how_many (λ c. eqb c l.mark) (drop l.i l.line) ≡ how_many (λ c. eqb c l.mark) l.line)
-
-abbrev pub decreases-loop-i : goal.decreases-loop-i
-decreases-loop-i l = length l.line - l.i
+abbrev pub invariant-loop-part : goal.invariant-loop-part
+invariant-loop-part l =
+    (l.part-iterator.size ≡ 255) × (l.n + length l.part-iterator.rest.now ≤ length l.line)
+    × (l.n + how_many (λ c. eqb c l.mark) l.part-iterator.rest.now ≡ how_many (λ c. eqb c l.mark) l.line)

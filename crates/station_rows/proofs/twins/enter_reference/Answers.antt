@@ -13,5 +13,5 @@ pub returns-else-found-eq0 : goal.returns-else-found-eq0
 returns-else-found-eq0 c parts here so_far =
     let found = c.first_bearer-found.ensures parts so_far in (
       found,
-      left_out (by_reference parts c.args.file.now) c.args.heads.now c.args.nexts.now c.args.k c.requires.le_k.0 so_far (later_leads_none (by_reference parts c.args.file.now) c.args.k (λ z. c.if-found-eq0.false (found ∙ z))),
+      left_out (by_reference parts c.args.file.now) c.args.references.now c.args.k c.requires.le_k.0 so_far (later_leads_none (by_reference parts c.args.file.now) c.args.k (λ z. c.if-found-eq0.false (found ∙ z))),
     )

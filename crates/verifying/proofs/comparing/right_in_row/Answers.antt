@@ -12,7 +12,7 @@ pub station_row-row-requires : goal.station_row-row-requires
 station_row-row-requires c =
     let d : c.args.i + 1 - 1 ≡ c.args.i = omega arith in
     record {
-      record_length_in_bounds = search rules;
+      has_record = search rules;
       le_k = search rules;
       some_entered = rw d (record { parts = everybody; entered = c.requires.entered });
     }

@@ -1,6 +1,6 @@
 -- `verifying::comparing::right_in_rows` meets its contract: all rows that were passed are right.
 use mathlib.Core.Path.{◌≡◌}
-use Prim.Native.Nat.{◌-◌, ◌*◌, ◌≤◌}
+use Prim.Native.Nat.{◌*◌}
 use Rattle.forms.specs.Counting.{rows}
 use Rattle.forms.specs.OwnForm.{row_width}
 use Rattle.sheet.specs.Sheets.{row_of}
@@ -9,7 +9,4 @@ use Rattle.alike.specs.Alike.{alike}
 use Rattle.verifying.proofs.comparing.right_in_rows.Given as goal
 
 abbrev pub invariant-loop-i : goal.invariant-loop-i
-invariant-loop-i l = (l.i ≤ l.n) × (alike (rows (row_of l.file) l.i) l.sheet ≡ row_width * l.i) × Entered l.file everybody l.codes l.heads l.nexts l.site_heads l.site_nexts l.seconds l.i
-
-abbrev pub decreases-loop-i : goal.decreases-loop-i
-decreases-loop-i l = l.n - l.i
+invariant-loop-i l = (alike (rows (row_of l.file) l.i) l.sheet ≡ row_width * l.i) × Entered l.file everybody l.entered.references l.entered.sites l.i

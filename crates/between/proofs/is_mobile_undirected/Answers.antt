@@ -1,6 +1,0 @@
--- `between::is_mobile_undirected` meets its contract: rule 34, by what is asked of the two members.
-use mathlib.Core.Path.{◌∙◌}
-use Rattle.between.proofs.is_mobile_undirected.Goals as goal
-
-pub returns : goal.returns
-returns c = c.never_both.ensures ∙ rw (c.is_mobile.ensures, c.has_tenths.ensures)

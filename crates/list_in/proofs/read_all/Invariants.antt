@@ -1,8 +1,0 @@
--- `list_in::read_all` is safe and ends: its turns are counted down.
-use Rattle.list_in.proofs.read_all.Given as goal
-
-abbrev pub invariant-loop-turns : goal.invariant-loop-turns
-invariant-loop-turns g l = Unit {0}
-
-abbrev pub decreases-loop-turns : goal.decreases-loop-turns
-decreases-loop-turns g l = l.turns
