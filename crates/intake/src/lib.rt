@@ -1,7 +1,9 @@
 // Standard input read whole, so that a read that fails is told from the end of the input; and what is made of it printed.
 #![tactic(auto)]
 
-ghost use Rattle.std.specs.Prelude.{◌≡◌, ◌≤◌, length, MatchResult};
+ghost use Rattle.std.specs.Prelude.{◌≡◌, ◌+◌, ◌*◌, ◌≤◌, length, MatchResult};
+ghost use Rattle.basics.specs.Fields.{record_length};
+ghost use Rattle.files.specs.Files.{most_stations};
 
 use files::lengths::MOST_BYTES;
 use std::io::Read;
@@ -41,11 +43,18 @@ pub fn room<const N: usize>() -> [u8; N]
     [0; N]
 }
 
+// Room for them.
+fn file_space() -> [u8; ROOM]
+    ensures { record_length * (most_stations + 1) + 1 ≡ length result }
+{
+    [0; ROOM]
+}
+
 // Reads at most that much of a file and has it answered by a function that tells whether it could print all of it; or says what could not be done.
 pub fn answer_input<R: Read, F: FnOnce(&[u8]) -> bool>(input: &mut R, print: F)
     requires { F.IsAlwaysCallable print }
 {
-    let mut file = room::<ROOM>();
+    let mut file = file_space();
     let n = match read_input(input, &mut file) {
         Ok(n) => n,
         Err(_) => {
