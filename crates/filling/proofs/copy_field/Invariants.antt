@@ -1,6 +1,6 @@
 -- `filling::copy_field` meets its contract: so many bytes are copied, and none of them is a mark.
 use mathlib.Core.Path.{◌≡◌}
-use Prim.Native.Nat.{◌-◌, ◌≤◌}
+use Prim.Native.Nat.{◌≤◌}
 use lib.ListN.{length, take}
 use Rattle.semicolons.specs.Marks.{Passed}
 use Rattle.filling.proofs.copy_field.Given as goal

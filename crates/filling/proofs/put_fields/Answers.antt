@@ -1,7 +1,7 @@
 -- `filling::put_fields` meets its contract: so many fields stand, and the others are still to come.
 use mathlib.Core.Path.{refl, sym, ◌∙◌}
 use mathlib.Core.Bool.{false≢true}
-use Prim.Native.Nat.{◌+◌, ◌-◌, ◌≤◌}
+use Prim.Native.Nat.{◌+◌, ◌≤◌}
 use lib.ListN.{length, get_or}
 use Rattle.station.specs.Places.{station_places}
 use Rattle.semicolons.specs.Fields.{station_sides}

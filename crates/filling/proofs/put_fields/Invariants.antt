@@ -1,6 +1,5 @@
 -- `filling::put_fields` meets its contract: so many fields stand, and the others are still to come.
 use mathlib.Core.Path.{◌≡◌}
-use Prim.Native.Nat.{◌-◌}
 use lib.ListN.{length}
 use Rattle.station.specs.Places.{station_places}
 use Rattle.semicolons.specs.Fields.{station_sides}
